@@ -1,0 +1,2 @@
+pub mod Reversed
+pub mod Words

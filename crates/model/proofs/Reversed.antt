@@ -1,0 +1,155 @@
+-- The reversed graph: its edges and limits, and that a path on it is a path on the graph, read from its end, with the same total.
+-- Assumes nothing.
+use mathlib.Core.Path.{_≡_, refl, sym, ap, _∙_, subst}
+use mathlib.Core.List.{List, [], _∷_, _++_}
+use Prim.Native.Nat.{ℕ, _+_}
+use native.Mathlib.Omega.{arith}
+use lib.ListN.{length, getD, length-map, length-append, List·getD-map}
+use Rattle.model.specs.Graph.{
+  Graph,
+  Edge,
+  noEdge,
+  absent,
+  vertexCount,
+  edgeCount,
+  from,
+  to,
+  cost,
+  Usable,
+  Accepted,
+  Leads,
+  total,
+  Direction,
+  forward,
+  backward,
+  swap,
+  reversed,
+  domain,
+  initialCost,
+}
+
+-- ---- a list read from its end
+
+unfoldable pub back : List ℕ → List ℕ
+back [] = []
+back (l ∷ ls) = back ls ++ (l ∷ [])
+
+pub back-snoc : (ls : List ℕ) (l : ℕ) → back (ls ++ (l ∷ [])) ≡ l ∷ back ls
+unfolding back
+back-snoc [] l = refl
+back-snoc (k ∷ ks) l = ap (λ (r : List ℕ). r ++ (k ∷ [])) (back-snoc ks l)
+
+pub back-back : (ls : List ℕ) → back (back ls) ≡ ls
+unfolding back
+back-back [] = refl
+back-back (l ∷ ls) = back-snoc (back ls) l ∙ ap (λ (r : List ℕ). l ∷ r) (back-back ls)
+
+pub back-length : (ls : List ℕ) → length (back ls) ≡ length ls
+unfolding back
+back-length [] = refl
+back-length (l ∷ ls) = omega (arith, length-append (back ls) (l ∷ []), back-length ls)
+
+-- ---- one more edge at the end of a path
+
+pub leads-snoc : (g : Graph) (a b l : ℕ) (ls : List ℕ) → Leads g a ls b → Usable g l → from g l ≡ b → Leads g a (ls ++ (l ∷ [])) (to g l)
+leads-snoc g a b l [] r h e = (h, e ∙ sym r, refl)
+leads-snoc g a b l (k ∷ ks) r h e = (r .0, r .1, leads-snoc g (to g k) b l ks (r .2) h e)
+
+pub total-snoc : (g : Graph) (l : ℕ) (ls : List ℕ) → total g (ls ++ (l ∷ [])) ≡ total g ls + cost g l
+total-snoc g l [] = omega arith
+total-snoc g l (k ∷ ks) = omega (arith, total-snoc g l ks)
+
+-- ---- the reversed graph, edge by edge
+
+module _ (g : Graph) where
+  reverse-edge : (l : ℕ) → getD ((reversed g) .edges) l noEdge ≡ swap (getD (g .edges) l noEdge)
+  unfolding reversed
+  reverse-edge l = List·getD-map swap (g .edges) l noEdge
+
+  pub reverse-from : (l : ℕ) → from (reversed g) l ≡ to g l
+  reverse-from l = ap (λ (x : Edge). x .from) (reverse-edge l)
+
+  pub reverse-to : (l : ℕ) → to (reversed g) l ≡ from g l
+  reverse-to l = ap (λ (x : Edge). x .to) (reverse-edge l)
+
+  pub reverse-cost : (l : ℕ) → cost (reversed g) l ≡ cost g l
+  reverse-cost l = ap (λ (x : Edge). x .cost) (reverse-edge l)
+
+  pub reverse-count : edgeCount (reversed g) ≡ edgeCount g
+  unfolding reversed
+  reverse-count = length-map (g .edges) swap
+
+  pub reverse-initial : (reversed g) .initial ≡ g .initial
+  unfolding reversed
+  reverse-initial = refl
+
+  pub reverse-vertices : vertexCount (reversed g) ≡ vertexCount g
+  unfolding reversed
+  reverse-vertices = refl
+
+  pub accepted-reversed : Accepted g → Accepted (reversed g)
+  unfolding reversed
+  accepted-reversed ok = record {
+    vertices = ok .vertices;
+    edges = rw reverse-count (ok .edges);
+    starts = ok .starts;
+    leaves = λ l h. rw (reverse-from l) (ok .enters l (omega (arith, h, reverse-count)));
+    enters = λ l h. rw (reverse-to l) (ok .leaves l (omega (arith, h, reverse-count)));
+    costs = λ l h. rw (reverse-cost l) (ok .costs l (omega (arith, h, reverse-count)));
+  }
+
+  -- ---- paths
+
+  pub leads-back : (ls : List ℕ) (a b : ℕ) → Leads (reversed g) a ls b → Leads g b (back ls) a
+  unfolding back
+  leads-back [] a b r = sym r
+  leads-back (l ∷ ls) a b r =
+      let p = leads-back ls (to (reversed g) l) b (r .2) in
+      subst (Leads g b (back ls ++ (l ∷ []))) (sym (reverse-from l) ∙ r .1)
+      (leads-snoc g b (to (reversed g) l) l (back ls) p (omega (arith, r .0, reverse-count)) (sym (reverse-to l)))
+
+  pub total-back : (ls : List ℕ) → total g (back ls) ≡ total (reversed g) ls
+  unfolding back
+  total-back [] = refl
+  total-back (l ∷ ls) = omega (arith, total-snoc g l (back ls), total-back ls, reverse-cost l)
+
+  pub back-leads : (ls : List ℕ) (a b : ℕ) → Leads g a ls b → Leads (reversed g) b (back ls) a
+  unfolding back
+  back-leads [] a b r = sym r
+  back-leads (l ∷ ls) a b r =
+      let p = back-leads ls (to g l) b (r .2) in
+      subst (Leads (reversed g) b (back ls ++ (l ∷ []))) (reverse-to l ∙ r .1)
+      (leads-snoc (reversed g) b (to g l) l (back ls) p (omega (arith, r .0, reverse-count)) (reverse-from l))
+
+  pub back-total : (ls : List ℕ) → total (reversed g) (back ls) ≡ total g ls
+  unfolding back
+  back-total [] = refl
+  back-total (l ∷ ls) = omega (arith, total-snoc (reversed g) l (back ls), back-total ls, reverse-cost l)
+
+-- ---- the domain of a cache
+
+pub accepted-domain : (dir : Direction) (g : Graph) → Accepted g → Accepted ((domain dir g) .graph)
+unfolding domain
+accepted-domain forward g ok = ok
+accepted-domain backward g ok = accepted-reversed g ok
+
+pub domain-direction : (dir : Direction) (g : Graph) → (domain dir g) .direction ≡ dir
+unfolding domain
+domain-direction forward g = refl
+domain-direction backward g = refl
+
+pub domain-forward : (g : Graph) → (domain forward g) .graph ≡ g
+unfolding domain
+domain-forward g = refl
+
+pub domain-backward : (g : Graph) → (domain backward g) .graph ≡ reversed g
+unfolding domain
+domain-backward g = refl
+
+pub initial-forward : (g : Graph) (v : ℕ) → initialCost (domain forward g) v ≡ getD (g .initial) v absent
+unfolding domain initialCost
+initial-forward g v = refl
+
+pub initial-backward : (g : Graph) (v : ℕ) → initialCost (domain backward g) v ≡ 0
+unfolding domain initialCost
+initial-backward g v = refl

@@ -1,0 +1,11 @@
+pub mod Lists
+pub mod Answers
+pub mod Graph
+pub mod Tree
+pub mod Path
+pub mod Sound
+pub mod Search
+pub mod Valid
+pub mod Calls
+pub mod Demands
+pub mod Reference

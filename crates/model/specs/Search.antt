@@ -1,0 +1,280 @@
+-- A search on the trees of a cache: an entry's turn, a step over the entries, opening.
+-- Assumes nothing.
+use mathlib.Core.Bool.{Bool, true, false, not}
+use mathlib.Core.List.{List, [], _∷_, _++_}
+use mathlib.Core.Option.{Option, none, some}
+use Prim.Native.Nat.{ℕ, zero, suc, _+_, _-_}
+use lib.Dec.{eqb, ltb}
+use lib.ListN.{length, getD, set, take, replicate}
+use Rattle.model.specs.declared.CostBound.{CostBound}
+use Rattle.model.specs.declared.CostBound.the-variants.{Unbounded, Bound}
+use Rattle.model.specs.declared.KnownLen.{KnownLen}
+use Rattle.model.specs.declared.KnownLen.the-variants.{Never, Len}
+use Rattle.model.specs.declared.Solution.{Solution}
+use Rattle.model.specs.declared.Solution.the-variants.{Unsolved, At}
+use Rattle.model.specs.declared.BestSolution.{BestSolution}
+use Rattle.model.specs.declared.BestSolution.the-variants.{NoBest, Best}
+use Rattle.model.specs.declared.TreeMemory.{TreeMemory}
+use Rattle.model.specs.declared.Search.{Search}
+use Rattle.model.specs.Graph.{Domain, Direction, forward, backward, absent, initialCost}
+use Rattle.model.specs.Tree.{Tree, Node, closedAt, evaluation, newTree, Going, on, found, over, Growth, grow, least}
+use Rattle.model.specs.Sound.{tree}
+
+-- ---- the record: its entries, its goals, and its changes
+
+-- what stands past the entries
+abbrev pub blank : TreeMemory
+blank = record { tree = 0; «last_known_closed_len» = Never; solution = Unsolved }
+
+abbrev pub entry : Search → ℕ → TreeMemory
+entry s i = getD (s .trees) i blank
+
+abbrev pub entries : Search → List TreeMemory
+entries s = take (s .«tree_count») (s .trees)
+
+-- 01: the wanted list (backward, the starts)
+abbrev pub goals : Search → List ℕ
+goals s = take (s .«goal_count») (s .«goal_keys»)
+
+abbrev pub withEntry : Search → ℕ → TreeMemory → Search
+withEntry s i e =
+    record {
+      trees = set (s .trees) i e;
+      «tree_count» = s .«tree_count»;
+      «goal_keys» = s .«goal_keys»;
+      «goal_count» = s .«goal_count»;
+      «best_solution» = s .«best_solution»;
+      exhausted = s .exhausted;
+    }
+
+abbrev pub withBest : Search → BestSolution → Search
+withBest s b =
+    record {
+      trees = s .trees;
+      «tree_count» = s .«tree_count»;
+      «goal_keys» = s .«goal_keys»;
+      «goal_count» = s .«goal_count»;
+      «best_solution» = b;
+      exhausted = s .exhausted;
+    }
+
+abbrev pub withExhausted : Search → Bool → Search
+withExhausted s x =
+    record {
+      trees = s .trees;
+      «tree_count» = s .«tree_count»;
+      «goal_keys» = s .«goal_keys»;
+      «goal_count» = s .«goal_count»;
+      «best_solution» = s .«best_solution»;
+      exhausted = x;
+    }
+
+-- entry i remembers k; entry i holds node n
+abbrev pub withKnown : Search → ℕ → KnownLen → Search
+withKnown s i k = withEntry s i (record { tree = (entry s i) .tree; «last_known_closed_len» = k; solution = (entry s i) .solution })
+
+abbrev pub withSolution : Search → ℕ → ℕ → Search
+withSolution s i n = withEntry s i (record { tree = (entry s i) .tree; «last_known_closed_len» = (entry s i) .«last_known_closed_len»; solution = At n })
+
+-- ---- 1. "If the closed count, counted from the closed words, is not the remembered one, the cheapest closed wanted motif, first in the
+-- list on ties, is the find"
+
+abbrev pub countIf : Bool → ℕ → ℕ
+countIf true n = n
+countIf false n = suc n
+
+unfoldable pub closedCount : List ℕ → ℕ
+closedCount [] = 0
+closedCount (x ∷ xs) = countIf (eqb x 0) (closedCount xs)
+
+abbrev pub remembers : KnownLen → ℕ → Bool
+remembers Never n = false
+remembers (Len k) n = eqb n k
+
+-- what the solution at node n is worth
+abbrev pub solutionCost : Domain → List Node → ℕ → ℕ
+solutionCost d ns n = evaluation ns n
+
+abbrev pub chosen : Bool → ℕ → ℕ → Solution
+chosen true i j = At i
+chosen false i j = At j
+
+-- o, unless the closed word names a cheaper node
+abbrev pub consider : Domain → List Node → Solution → ℕ → Solution
+consider d ns o zero = o
+consider d ns Unsolved (suc i) = At i
+consider d ns (At j) (suc i) = chosen (ltb (solutionCost d ns i) (solutionCost d ns j)) i j
+
+unfoldable pub cheapest : Domain → List Node → List ℕ → List ℕ → Solution → Solution
+cheapest d ns cl [] o = o
+cheapest d ns cl (v ∷ vs) o = cheapest d ns cl vs (consider d ns o (closedAt cl v))
+
+abbrev pub lookupIf : Bool → Domain → List Node → List ℕ → List ℕ → Solution
+lookupIf true d ns cl gs = Unsolved
+lookupIf false d ns cl gs = cheapest d ns cl gs Unsolved
+
+unfoldable pub lookup : Domain → Tree → List ℕ → KnownLen → Solution
+unfolding cheapest closedCount
+lookup d t gs known = lookupIf (remembers known (closedCount (t .closed))) d (t .nodes) (t .closed) gs
+
+-- ---- an entry's turn
+
+pub record Turn : Type 0 where
+  pub tree : Tree
+  pub known : KnownLen
+  pub find : Solution
+  pub more : Bool
+  pub tickets : ℕ
+
+abbrev pub findOf : Going → Solution
+findOf on = Unsolved
+findOf (found n) = At n
+findOf over = Unsolved
+
+-- "a queue whose first cost is under the bound, or any queue not empty when there is no bound"
+abbrev pub under : List Node → Option ℕ → CostBound → Bool
+under ns none b = false
+under ns (some n) Unbounded = true
+under ns (some n) (Bound b) = ltb (evaluation ns n) b
+
+-- 3. "the closed count is remembered, and a queue .. keeps the search unfinished"
+unfoldable pub grown : Growth → CostBound → Turn
+unfolding closedCount least
+grown g b =
+    record {
+      tree = g .tree;
+      known = Len (closedCount (g .tree .closed));
+      find = findOf (g .going);
+      more = under (g .tree .nodes) (least (g .tree .nodes) (g .tree .waiting)) b;
+      tickets = g .tickets;
+    }
+
+-- a find by lookup: "no growing, nothing remembered"; 2. "With no find, the entry takes at most ten tickets"
+unfoldable pub turnBy : Domain → List ℕ → CostBound → Tree → KnownLen → Solution → Turn
+unfolding grown grow
+turnBy d gs b t known (At n) = record { tree = t; known = known; find = At n; more = false; tickets = 0 }
+turnBy d gs b t known Unsolved = grown (grow d gs b 10 (record { tree = t; tickets = 0; going = on })) b
+
+unfoldable pub turn : Domain → List ℕ → CostBound → Tree → KnownLen → Turn
+unfolding turnBy lookup
+turn d gs b t known = turnBy d gs b t known (lookup d t gs known)
+
+-- ---- 4. "A find replaces the entry's run unless dearer, and is best only if strictly cheaper."
+
+abbrev pub dearer : Domain → List Node → ℕ → Solution → Bool
+dearer d ns n Unsolved = false
+dearer d ns n (At h) = ltb (solutionCost d ns h) (solutionCost d ns n)
+
+abbrev pub cheaper : ℕ → CostBound → Bool
+cheaper k Unbounded = true
+cheaper k (Bound b) = ltb k b
+
+abbrev pub bestIf : Bool → Search → ℕ → ℕ → Search
+bestIf true s i n = withBest s (Best i n)
+bestIf false s i n = s
+
+abbrev pub solveIf : Bool → Domain → List Node → CostBound → Search → ℕ → ℕ → Search
+solveIf true d ns b s i n = s
+solveIf false d ns b s i n = bestIf (cheaper (solutionCost d ns n) b) (withSolution s i n) i n
+
+abbrev pub solve : Domain → List Node → CostBound → Search → ℕ → Solution → Search
+solve d ns b s i Unsolved = s
+solve d ns b s i (At n) = solveIf (dearer d ns n ((entry s i) .solution)) d ns b s i n
+
+abbrev pub unfinishedIf : Bool → Search → Search
+unfinishedIf true s = withExhausted s false
+unfinishedIf false s = s
+
+-- the record after the turn u of entry i
+abbrev pub recorded : Domain → CostBound → Search → ℕ → Turn → Search
+recorded d b s i u = solve d (u .tree .nodes) b (unfinishedIf (u .more) (withKnown s i (u .known))) i (u .find)
+
+-- ---- a step: "for each entry in order"
+
+abbrev pub boundOf : Domain → List Tree → Search → BestSolution → CostBound
+boundOf d ts s NoBest = Unbounded
+boundOf d ts s (Best i n) = Bound (solutionCost d (tree ts ((entry s i) .tree) .nodes) n)
+
+-- "The bound is the best total before this entry's turn"
+abbrev pub bound : Domain → List Tree → Search → CostBound
+bound d ts s = boundOf d ts s (s .«best_solution»)
+
+pub record Walk : Type 0 where
+  pub trees : List Tree
+  pub search : Search
+  pub tickets : ℕ
+
+unfoldable pub round : Domain → ℕ → Walk → Walk
+unfolding turn
+round d i w =
+    let s = w .search in
+    let e = entry s i in
+    let b = bound d (w .trees) s in
+    let u = turn d (goals s) b (tree (w .trees) (e .tree)) (e .«last_known_closed_len») in
+    record { trees = set (w .trees) (e .tree) (u .tree); search = recorded d b s i u; tickets = w .tickets + u .tickets }
+
+-- k entries from i on
+unfoldable pub rounds : Domain → ℕ → ℕ → Walk → Walk
+unfolding round
+rounds d zero i w = w
+rounds d (suc k) i w = rounds d k (suc i) (round d i w)
+
+-- finished until an entry's queue says otherwise
+unfoldable pub walk : Domain → List Tree → Search → Walk
+unfolding rounds
+walk d ts s = rounds d (s .«tree_count») 0 (record { trees = ts; search = withExhausted s true; tickets = 0 })
+
+-- ---- opening a search
+
+-- the slot of the tree that starts at v
+unfoldable pub seek : List Tree → ℕ → ℕ → Option ℕ
+seek [] v i = none
+seek (t ∷ ts) v i = elim (eqb (t .start) v) [ true ↦ some i | false ↦ seek ts v (suc i) ]
+
+pub record Planted : Type 0 where
+  pub trees : List Tree
+  pub entries : List TreeMemory
+
+abbrev pub entryOf : ℕ → TreeMemory
+entryOf i = record { tree = i; «last_known_closed_len» = Never; solution = Unsolved }
+
+-- "Starts without a start cost are skipped. Each other start makes one entry, doubles too, and one tree per start motif is shared. New
+-- trees take the next slots in list order."
+unfoldable pub plant : Domain → List Tree → ℕ → Bool → Option ℕ → Planted
+unfolding newTree
+plant d ts v true o = record { trees = ts; entries = [] }
+plant d ts v false (some i) = record { trees = ts; entries = entryOf i ∷ [] }
+plant d ts v false none = record { trees = ts ++ (newTree d v ∷ []); entries = entryOf (length ts) ∷ [] }
+
+unfoldable pub plantAll : Domain → List Tree → List ℕ → Planted
+unfolding plant seek initialCost
+plantAll d ts [] = record { trees = ts; entries = [] }
+plantAll d ts (v ∷ vs) =
+    let p = plant d ts v (eqb (initialCost d v) absent) (seek ts v 0) in
+    let r = plantAll d (p .trees) vs in
+    record { trees = r .trees; entries = p .entries ++ r .entries }
+
+-- the starts that a list of starts stands for
+abbrev pub startsOf : List ℕ → List ℕ
+startsOf l = l
+
+-- "A search opened on a backward book roots its trees at the wanted motifs and looks for the starts"
+abbrev pub rootsOf : Direction → List ℕ → List ℕ → List ℕ
+rootsOf forward ss gs = startsOf ss
+rootsOf backward ss gs = gs
+
+abbrev pub goalsOf : Direction → List ℕ → List ℕ → List ℕ
+goalsOf forward ss gs = gs
+goalsOf backward ss gs = startsOf ss
+
+-- entries es and goals gs in arrays of 64
+abbrev pub newSearch : List TreeMemory → List ℕ → Search
+newSearch es gs =
+    record {
+      trees = es ++ replicate (64 - length es) blank;
+      «tree_count» = length es;
+      «goal_keys» = gs ++ replicate (64 - length gs) 0;
+      «goal_count» = length gs;
+      «best_solution» = NoBest;
+      exhausted = false;
+    }
