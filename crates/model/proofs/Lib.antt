@@ -2,3 +2,10 @@ pub mod Bools
 pub mod Tests
 pub mod Reversed
 pub mod Words
+pub mod Lists
+pub mod Choices
+pub mod Least
+pub mod Grow
+pub mod Later
+pub mod Turns
+pub mod Keeps

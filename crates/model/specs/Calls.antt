@@ -4,7 +4,7 @@
 use mathlib.Core.Bool.{Bool, true, false, not, _&&_}
 use mathlib.Core.List.{List, [], _∷_, _++_}
 use mathlib.Core.Option.{Option, none, some}
-use Prim.Native.Nat.{ℕ, _+_, _-_, _*_}
+use Prim.Native.Nat.{ℕ, _+_, _-_, _*_, _≤_}
 use lib.Dec.{leb, ltb}
 use lib.ListN.{length, drop}
 use Rattle.model.specs.declared.Solution.{Solution}
@@ -17,7 +17,7 @@ use Rattle.model.specs.Answers.{Reply, answered, refused, Status, waitin
 use Rattle.model.specs.Graph.{Graph, Domain, Direction, domain, vertexCount}
 use Rattle.model.specs.Tree.{Tree, node}
 use Rattle.model.specs.Path.{movesOf, words}
-use Rattle.model.specs.Sound.{noTree, tree}
+use Rattle.model.specs.Sound.{noTree, tree, SoundTrees, soundTreesb}
 use Rattle.model.specs.Search.{entry, walk, Planted, plantAll, rootsOf, goalsOf, newSearch}
 use Rattle.model.specs.Valid.{valid}
 
@@ -31,6 +31,15 @@ pub record Cache : Type 0 where
 unfoldable pub opened : Direction → Graph → ℕ → Cache
 unfolding domain
 opened dir g slots = record { domain = domain dir g; slots = slots; trees = [] }
+
+-- "A book is sound if ..", as far as its trees go: trees in use are at most T, and the trees are sound
+pub record SoundCache (c : Cache) : Type 0 where
+  pub within : length (c .trees) ≤ c .slots
+  pub trees : SoundTrees (c .domain) (c .trees)
+
+unfoldable pub soundCacheb : Cache → Bool
+unfolding soundTreesb
+soundCacheb c = leb (length (c .trees)) (c .slots) && soundTreesb (c .domain) (c .trees)
 
 abbrev pub withTrees : Cache → List Tree → Cache
 withTrees c ts = record { domain = c .domain; slots = c .slots; trees = ts }
