@@ -9,3 +9,4 @@ pub mod Grow
 pub mod Later
 pub mod Turns
 pub mod Keeps
+pub mod Rounds

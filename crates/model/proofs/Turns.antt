@@ -21,7 +21,7 @@ use Rattle.model.specs.Lists.{mem}
 use Rattle.model.specs.Graph.{Domain, Accepted, Leads, total, initialCost}
 use Rattle.model.specs.Tree.{Tree, Node, node, closedAt, evaluation, Going, on, found, over, Growth, grow, least, leastOf}
 use Rattle.model.specs.Sound.{Sound}
-use Rattle.model.specs.Search.{closedCount, remembers, chosen, consider, cheapest, lookup, lookupIf, Turn, findOf, under, grown, turnBy, turn, dearer}
+use Rattle.model.specs.Search.{closedCount, remembers, chosen, consider, cheapest, lookup, lookupIf, Turn, findOf, under, grown, turnBy, turn, dearer, holdIf, hold}
 use Rattle.model.proofs.Lists.{Least, least-is, before-cost, mem-nil, mem-head, mem-tail, mem-cases}
 use Rattle.model.proofs.Least.{Front, done, later, front-start}
 use Rattle.model.proofs.Later.{Later, later-refl, Gone, Grew, Moved}
@@ -98,14 +98,6 @@ cheapest-is d ns cl (v ∷ vs) o = go (consider d ns o (closedAt cl v)) (conside
         through (At j) k u f = upto-le ns (cheapest d ns cl vs (At j)) _ k u (f j refl)
 
 -- ---- the solution held: "A find replaces the entry's run unless dearer"
-
-abbrev pub holdIf : Bool → Solution → ℕ → Solution
-holdIf true h n = h
-holdIf false h n = At n
-
-abbrev pub hold : Domain → List Node → Solution → Solution → Solution
-hold d ns h Unsolved = h
-hold d ns h (At n) = holdIf (dearer d ns n h) h n
 
 pub hold-find : (d : Domain) (ns : List Node) (h : Solution) (n : ℕ) → Upto ns (hold d ns h (At n)) (evaluation ns n)
 hold-find d ns Unsolved n = omega arith

@@ -20,7 +20,7 @@ use Rattle.model.specs.Graph.{Domain, Direction, forward, backward, abse
 use Rattle.model.specs.Tree.{Tree, Node, closedAt, evaluation, newTree, Going, on, found, over, Growth, grow, least}
 use Rattle.model.specs.Sound.{tree}
 
--- ---- the record: its entries, its goals, and its changes
+-- ---- the record: its entries and its goals
 
 -- what stands past the entries
 abbrev pub blank : TreeMemory
@@ -36,28 +36,6 @@ entries s = take (s .«tree_count») (s .trees)
 abbrev pub goals : Search → List ℕ
 goals s = take (s .«goal_count») (s .«goal_keys»)
 
-abbrev pub withEntry : Search → ℕ → TreeMemory → Search
-withEntry s i e =
-    record {
-      trees = set (s .trees) i e;
-      «tree_count» = s .«tree_count»;
-      «goal_keys» = s .«goal_keys»;
-      «goal_count» = s .«goal_count»;
-      «best_solution» = s .«best_solution»;
-      exhausted = s .exhausted;
-    }
-
-abbrev pub withBest : Search → BestSolution → Search
-withBest s b =
-    record {
-      trees = s .trees;
-      «tree_count» = s .«tree_count»;
-      «goal_keys» = s .«goal_keys»;
-      «goal_count» = s .«goal_count»;
-      «best_solution» = b;
-      exhausted = s .exhausted;
-    }
-
 abbrev pub withExhausted : Search → Bool → Search
 withExhausted s x =
     record {
@@ -68,13 +46,6 @@ withExhausted s x =
       «best_solution» = s .«best_solution»;
       exhausted = x;
     }
-
--- entry i remembers k; entry i holds node n
-abbrev pub withKnown : Search → ℕ → KnownLen → Search
-withKnown s i k = withEntry s i (record { tree = (entry s i) .tree; «last_known_closed_len» = k; solution = (entry s i) .solution })
-
-abbrev pub withSolution : Search → ℕ → ℕ → Search
-withSolution s i n = withEntry s i (record { tree = (entry s i) .tree; «last_known_closed_len» = (entry s i) .«last_known_closed_len»; solution = At n })
 
 -- ---- 1. "If the closed count, counted from the closed words, is not the remembered one, the cheapest closed wanted motif, first in the
 -- list on ties, is the find"
@@ -169,25 +140,43 @@ abbrev pub cheaper : ℕ → CostBound → Bool
 cheaper k Unbounded = true
 cheaper k (Bound b) = ltb k b
 
-abbrev pub bestIf : Bool → Search → ℕ → ℕ → Search
-bestIf true s i n = withBest s (Best i n)
-bestIf false s i n = s
+abbrev pub holdIf : Bool → Solution → ℕ → Solution
+holdIf true h n = h
+holdIf false h n = At n
 
-abbrev pub solveIf : Bool → Domain → List Node → CostBound → Search → ℕ → ℕ → Search
-solveIf true d ns b s i n = s
-solveIf false d ns b s i n = bestIf (cheaper (solutionCost d ns n) b) (withSolution s i n) i n
+-- the solution held after a find, where h was held
+abbrev pub hold : Domain → List Node → Solution → Solution → Solution
+hold d ns h Unsolved = h
+hold d ns h (At n) = holdIf (dearer d ns n h) h n
 
-abbrev pub solve : Domain → List Node → CostBound → Search → ℕ → Solution → Search
-solve d ns b s i Unsolved = s
-solve d ns b s i (At n) = solveIf (dearer d ns n ((entry s i) .solution)) d ns b s i n
+abbrev pub bestIf : Bool → Bool → BestSolution → ℕ → ℕ → BestSolution
+bestIf true c old i n = old
+bestIf false true old i n = Best i n
+bestIf false false old i n = old
 
-abbrev pub unfinishedIf : Bool → Search → Search
-unfinishedIf true s = withExhausted s false
-unfinishedIf false s = s
+-- the best after a find of entry i, where h was held and b is the bound
+abbrev pub bestAfter : Domain → List Node → CostBound → Solution → BestSolution → ℕ → Solution → BestSolution
+bestAfter d ns b h old i Unsolved = old
+bestAfter d ns b h old i (At n) = bestIf (dearer d ns n h) (cheaper (solutionCost d ns n) b) old i n
 
--- the record after the turn u of entry i
+abbrev pub exhaustedUnless : Bool → Bool → Bool
+exhaustedUnless true x = false
+exhaustedUnless false x = x
+
+-- the entry, and the record, after the turn u of entry i
+abbrev pub recordedEntry : Domain → TreeMemory → Turn → TreeMemory
+recordedEntry d e u = record { tree = e .tree; «last_known_closed_len» = u .known; solution = hold d (u .tree .nodes) (e .solution) (u .find) }
+
 abbrev pub recorded : Domain → CostBound → Search → ℕ → Turn → Search
-recorded d b s i u = solve d (u .tree .nodes) b (unfinishedIf (u .more) (withKnown s i (u .known))) i (u .find)
+recorded d b s i u =
+    record {
+      trees = set (s .trees) i (recordedEntry d (entry s i) u);
+      «tree_count» = s .«tree_count»;
+      «goal_keys» = s .«goal_keys»;
+      «goal_count» = s .«goal_count»;
+      «best_solution» = bestAfter d (u .tree .nodes) b ((entry s i) .solution) (s .«best_solution») i (u .find);
+      exhausted = exhaustedUnless (u .more) (s .exhausted);
+    }
 
 -- ---- a step: "for each entry in order"
 
