@@ -10,3 +10,5 @@ pub mod Later
 pub mod Turns
 pub mod Keeps
 pub mod Rounds
+pub mod Valid
+pub mod Tickets
