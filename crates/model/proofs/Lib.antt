@@ -12,3 +12,4 @@ pub mod Keeps
 pub mod Rounds
 pub mod Valid
 pub mod Tickets
+pub mod Opens
