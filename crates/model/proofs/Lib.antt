@@ -13,3 +13,5 @@ pub mod Rounds
 pub mod Valid
 pub mod Tickets
 pub mod Opens
+pub mod Chain
+pub mod Demand3

@@ -9,7 +9,7 @@ use Prim.Native.Nat.{ℕ, zero, suc, _+_, _-_, _<_, _≤_}
 use native.Mathlib.Omega.{arith}
 use borrow.Author.Tests.{eqb-true, eqb-false, not-true, not-false}
 use lib.Dec.{eqb}
-use lib.ListN.{length, getD, take, replicate, length-append, length-replicate, List·getD-append}
+use lib.ListN.{length, getD, take, replicate, length-append, length-replicate, length-map, List·getD-append}
 use lib.Seq.{take-append-seam}
 use Rattle.model.specs.declared.CostBound.the-variants.{Unbounded}
 use Rattle.model.specs.declared.TreeMemory.{TreeMemory}
@@ -170,6 +170,10 @@ index-is ts v i e = rw e
 -- the slots of the different roots that may start
 pub slotsOf : Domain → List Tree → List ℕ → List ℕ
 slotsOf d ts vs = map (index ts) (distinct (allowedb d) vs)
+
+pub slots-length : (d : Domain) (ts : List Tree) (vs : List ℕ) → length (slotsOf d ts vs) ≡ length (distinct (allowedb d) vs)
+unfolding slotsOf
+slots-length d ts vs = length-map (distinct (allowedb d) vs) (index ts)
 
 -- tree i is one of the search's own: it starts at a root that may start
 pub record Own (d : Domain) (vs : List ℕ) (ts : List Tree) (i : ℕ) : Type 0 where
