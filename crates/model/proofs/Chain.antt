@@ -29,7 +29,8 @@ use Rattle.model.specs.Valid.{valid}
 use Rattle.model.specs.Calls.{Cache, SoundCache, opened, firstFault, orElse, initializeFaults, initializeBy, AfterInitialize, initialize, stepIf, stepBy, step, AfterStep, finalStatus, statusAt, shown, shownBy, shownTree, shownTreeBy, isBest, solvedAlready, movesAt, wordsAt, written, retraceFaults, retraceBy, retrace, AfterRetrace}
 use Rattle.model.specs.Demands.{Call, after, afterAll, Act, ownStep, ownRetrace, other, Event, stepped, retraced, events, distinct, treesOf, waitLimit, Outcome, unreachable, reached, LeastPath, Right, statusOf, notSolved, shownIf, shownOf, Early, Late, Every, steps, Owed}
 use Rattle.model.proofs.Least.{path-of}
-use Rattle.model.proofs.Later.{path-later, nodes-le, queue-le}
+use Rattle.model.proofs.Later.{path-later}
+use Rattle.model.proofs.Room.{nodes-le, queue-le}
 use Rattle.model.proofs.Turns.{Holds, Under}
 use Rattle.model.proofs.Keeps.{AllLater, all-refl, Keeps, MayInitialize, may-initialize, roots-below, plants-keep, walk-length, KeptCache, kept-sound, accepted-kept, initialize-keeps, after-keeps, after-all-keeps}
 use Rattle.model.proofs.Rounds.{EntryOk, BestOk, BestsOk, Ready, ready-later, bound-later, Covered, Gave, Walked, walked}

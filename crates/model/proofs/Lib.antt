@@ -7,6 +7,7 @@ pub mod Choices
 pub mod Least
 pub mod Grow
 pub mod Later
+pub mod Room
 pub mod Turns
 pub mod Keeps
 pub mod Rounds

@@ -154,6 +154,29 @@ without-length n b (x ∷ xs) a m = go (λ k. without-length n (suc x) xs (a .1)
     go ih true e (inr k) = ap suc (ih k)
     go ih false e k = ap suc (ap length (without-absent n (suc x) xs (let q : x ≡ n = eqb-true x n (not-false (eqb x n) e) in omega arith) (a .1)))
 
+-- a number that was taken does not wait
+pub without-not : (n : ℕ) (q : List ℕ) → List·Memᴰ n (without n q) → ⊥
+unfolding without
+without-not n [] m = List·Memᴰ·not-nil m
+without-not n (x ∷ xs) m = go (without-not n xs) (eqb x n) refl m
+  where
+    go : (List·Memᴰ n (without n xs) → ⊥) → (b : Bool) → eqb x n ≡ b → List·Memᴰ n (keep (not b) x (without n xs)) → ⊥
+    go ih true e k = ih k
+    go ih false e k = elim (List·Memᴰ·cases-cons k) [ inl z ↦ eqb-false x n e (sym z) | inr z ↦ ih z ]
+
+-- at most one fewer
+pub without-longer : (n b : ℕ) (q : List ℕ) → Ascends b q → length q ≤ suc (length (without n q))
+unfolding without
+without-longer n b [] a = omega arith
+without-longer n b (x ∷ xs) a = go (without-longer n (suc x) xs (a .1)) (eqb x n) refl
+  where
+    go : length xs ≤ suc (length (without n xs)) → (t : Bool) → eqb x n ≡ t → suc (length xs) ≤ suc (length (keep (not t) x (without n xs)))
+    go ih true e = ap-le (without-absent n (suc x) xs (let z : x ≡ n = eqb-true x n e in omega arith) (a .1))
+      where
+        ap-le : without n xs ≡ xs → suc (length xs) ≤ suc (length (without n xs))
+        ap-le z = rw z (omega arith)
+    go ih false e = omega arith
+
 -- ---- numbers in a row
 
 pub up-mem : (k n i : ℕ) → List·Memᴰ i (upFrom k n) → (n ≤ i) × (i < n + k)
