@@ -22,8 +22,8 @@ use Rattle.model.specs.Tree.{Tree, node, evaluation}
 use Rattle.model.specs.Path.{path, words}
 use Rattle.model.specs.Sound.{tree, Sound, SoundTrees}
 use Rattle.model.specs.Search.{entry, boundOf, bound, plantAll, rootsOf, goalsOf, newSearch}
-use Rattle.model.specs.Calls.{Cache, SoundCache, opened, firstFault, initializeFaults, initializeBy, AfterInitialize, initialize}
-use Rattle.model.specs.Demands.{Call, afterAll, Act, events, distinct, treesOf, waitLimit, Outcome, unreachable, reached, LeastPath, Right, Owed}
+use Rattle.model.specs.Calls.{Cache, SoundCache, opened, firstFault, initializeFaults, initializeBy, initialize, step, retrace}
+use Rattle.model.specs.Demands.{Call, afterAll, Act, ownStep, ownRetrace, other, Event, stepped, retraced, events, Chain, ends, own-step, own-retrace, between, distinct, treesOf, waitLimit, Outcome, unreachable, reached, LeastPath, Right, Owed}
 use Rattle.model.proofs.Least.{path-of}
 use Rattle.model.proofs.Turns.{Under}
 use Rattle.model.proofs.Keeps.{Keeps, MayInitialize, may-initialize, roots-below, plants-keep, KeptCache, kept-sound, after-all-keeps}
@@ -241,3 +241,19 @@ demand-3 dir g acc slots before ss gs e acts =
     let h : length (c .trees) ≤ slots = omega (arith, k .within, q) in
     subst (λ (x : Cache). (initialize x ss gs) .reply ≡ answered tt → Owed dir g ss gs (events ((initialize x ss gs) .cache) ((initialize x ss gs) .search) acts)) (sym is)
     (λ r. owed-from dir g acc slots (c .trees) ok h ss gs r acts) e
+
+-- ---- the same of a plain list of calls and any chain in it
+
+-- a chain is a list of acts: its own calls are marked
+pub chain-acts : {c : Cache} {s : Search} {xs : List Call} {es : List Event} → Chain c s xs es → (acts : List Act) × (es ≡ events c s acts)
+unfolding events
+chain-acts ends = ([], refl)
+chain-acts (own-step {c = c} {s = s} k) = let r = chain-acts k in (ownStep ∷ r .0, ap (λ (l : List Event). stepped ((step c s) .reply) ∷ l) (r .1))
+chain-acts (own-retrace {c = c} {s = s} {p = p} k) = let r = chain-acts k in (ownRetrace p ∷ r .0, ap (λ (l : List Event). retraced p (retrace c s p) ∷ l) (r .1))
+chain-acts (between {x = x} k) = let r = chain-acts k in (other x ∷ r .0, r .1)
+
+pub demand-3-calls : (dir : Direction) (g : Graph) → Accepted g → (slots : ℕ) (before : List Call) (ss gs : List ℕ)
+    → (initialize (afterAll (opened dir g slots) before) ss gs) .reply ≡ answered tt → (xs : List Call) (es : List Event)
+    → Chain ((initialize (afterAll (opened dir g slots) before) ss gs) .cache) ((initialize (afterAll (opened dir g slots) before) ss gs) .search) xs es
+    → Owed dir g ss gs es
+demand-3-calls dir g acc slots before ss gs e xs es k = let r = chain-acts k in subst (Owed dir g ss gs) (sym (r .1)) (demand-3 dir g acc slots before ss gs e (r .0))

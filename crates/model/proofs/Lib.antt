@@ -16,3 +16,4 @@ pub mod Tickets
 pub mod Opens
 pub mod Chain
 pub mod Demand3
+pub mod Examples

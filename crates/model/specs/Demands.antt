@@ -51,6 +51,16 @@ events c s (ownStep ∷ acts) = let r = step c s in stepped (r .reply) ∷ event
 events c s (ownRetrace p ∷ acts) = retraced p (retrace c s p) ∷ events c s acts
 events c s (other x ∷ acts) = events (after c x) s acts
 
+-- the same said of a plain list of calls: a chain picks out of the list those calls that are handed the record it has come to, as many of
+-- them as one likes; every other call stands between
+pub data Chain : Cache → Search → List Call → List Event → Type 0 where
+  ends : {c : Cache} {s : Search} → Chain c s [] []
+  own-step : {c : Cache} {s : Search} {xs : List Call} {es : List Event} → Chain ((step c s) .cache) ((step c s) .search) xs es
+      → Chain c s (stepping s ∷ xs) (stepped ((step c s) .reply) ∷ es)
+  own-retrace : {c : Cache} {s : Search} {p : List ℕ} {xs : List Call} {es : List Event} → Chain c s xs es
+      → Chain c s (retracing s p ∷ xs) (retraced p (retrace c s p) ∷ es)
+  between : {c : Cache} {s : Search} {x : Call} {xs : List Call} {es : List Event} → Chain (after c x) s xs es → Chain c s (x ∷ xs) es
+
 -- ---- "at most 1 + trees × (1 + links) times"
 
 -- the numbers of l that pass p, each once

@@ -1,0 +1,403 @@
+-- 01's worked examples, computed: answer, total and moves, waits, tickets and path words of each order. The orders on 01's little graph
+-- are made to the reference too.
+-- Assumes nothing.
+use mathlib.Core.Path.{_≡_, refl}
+use mathlib.Core.Bool.{Bool, true, false}
+use mathlib.Core.List.{List, [], _∷_}
+use mathlib.Core.Option.{Option, none, some}
+use Prim.Native.Nat.{ℕ, zero, suc, _+_, _-_, _*_}
+use lib.ListN.{length, replicate, take}
+use Rattle.model.specs.declared.Search.{Search}
+use Rattle.model.specs.Answers.{Reply, answered, refused, Status, waiting, solved, noPath}
+use Rattle.model.specs.Graph.{Edge, Graph, Direction, forward, backward, absent}
+use Rattle.model.specs.Tree.{Tree}
+use Rattle.model.specs.Path.{path, words}
+use Rattle.model.specs.Sound.{soundTreesb}
+use Rattle.model.specs.Calls.{Cache, opened, withTrees, firstFault, initializeFaults, initialize, step, retrace}
+use Rattle.model.specs.Reference as reference
+
+-- ---- an order: a search is opened, stepped until it answers, and its path is shown
+
+-- reply: of the last step, or the refusal of the opening
+pub record Told : Type 0 where
+  pub cache : Cache
+  pub reply : Reply Status
+  pub waits : ℕ
+  pub tickets : ℕ
+  pub path : List ℕ
+
+abbrev pub isWaiting : Reply Status → Bool
+isWaiting (answered waiting) = true
+isWaiting (answered (solved k n)) = false
+isWaiting (answered noPath) = false
+isWaiting (refused n line) = false
+
+-- the words written, without those past them
+abbrev pub shownWords : List ℕ → Reply ℕ → List ℕ
+shownWords p (answered n) = take (1 + 2 * n) p
+shownWords p (refused n line) = []
+
+-- a slice long enough for every path below
+abbrev pub slice : List ℕ
+slice = replicate 64 7
+
+-- steps with a falling count, while the reply is waiting; w waits and k tickets so far
+unfoldable pub drive : ℕ → ℕ → ℕ → Cache → Search → Told
+unfolding step retrace path words
+drive zero w k c s = record { cache = c; reply = answered waiting; waits = w; tickets = k; path = [] }
+drive (suc f) w k c s =
+    let r = step c s in
+    let shown = retrace (r .cache) (r .search) slice in
+    elim (isWaiting (r .reply)) [
+      | true ↦ drive f (suc w) (k + r .tickets) (r .cache) (r .search)
+      | false ↦ record { cache = r .cache; reply = r .reply; waits = w; tickets = k + r .tickets; path = shownWords (shown .path) (shown .reply) }
+    ]
+
+-- refused n: nothing is changed
+abbrev pub turnedAway : Cache → ℕ → Told
+turnedAway c n = record { cache = c; reply = refused n 0; waits = 0; tickets = 0; path = [] }
+
+unfoldable pub order : Cache → List ℕ → List ℕ → Told
+unfolding drive initialize
+order c ss gs =
+    let r = initialize c ss gs in
+    elim (r .reply) [
+      | answered u ↦ drive 100 0 0 (r .cache) (r .search)
+      | refused n line ↦ record { cache = r .cache; reply = refused n line; waits = 0; tickets = 0; path = [] }
+    ]
+
+pub record Row : Type 0 where
+  pub reply : Reply Status
+  pub waits : ℕ
+  pub tickets : ℕ
+  pub path : List ℕ
+
+unfoldable pub row : Told → Row
+row t = record { reply = t .reply; waits = t .waits; tickets = t .tickets; path = t .path }
+
+-- ---- the same order made to the reference, which counts no tickets: "the growth of nodes used less queue length, summed over trees"
+
+unfoldable pub spent : List Tree → ℕ
+spent [] = 0
+spent (t ∷ ts) = (length (t .nodes) - length (t .waiting)) + spent ts
+
+unfoldable pub referenceDrive : ℕ → ℕ → ℕ → Cache → reference.Memory → Told
+unfolding reference.step spent
+referenceDrive zero w k c m = record { cache = c; reply = answered waiting; waits = w; tickets = spent (c .trees) - k; path = [] }
+referenceDrive (suc f) w k c m =
+    let r = reference.step (c .domain) (c .trees) m in
+    let shown = reference.shownOf (r .status) slice in
+    elim (isWaiting (reference.replyOf (r .status))) [
+      | true ↦ referenceDrive f (suc w) k (withTrees c (r .trees)) (r .memory)
+      | false ↦ record {
+        cache = withTrees c (r .trees);
+        reply = reference.replyOf (r .status);
+        waits = w;
+        tickets = spent (r .trees) - k;
+        path = shownWords (shown .path) (shown .reply);
+      }
+    ]
+
+abbrev pub referenceOrderBy : Option ℕ → Cache → reference.Opened → Told
+referenceOrderBy (some n) c o = turnedAway c n
+referenceOrderBy none c o = referenceDrive 100 0 (spent (o .trees)) (withTrees c (o .trees)) (o .memory)
+
+unfoldable pub referenceOrder : Cache → List ℕ → List ℕ → Told
+unfolding referenceDrive reference.initialize initialize
+referenceOrder c ss gs = referenceOrderBy (firstFault (initializeFaults c ss gs)) c (reference.initialize (c .domain) (c .trees) ss gs)
+
+-- ---- 01's little graph, and one sheet of five orders on it, each direction with its own cache
+
+unfoldable pub little : Graph
+little =
+    record {
+      initial = 0 ∷ 5 ∷ absent ∷ absent ∷ [];
+      edges = record { from = 0; to = 1; cost = 4 } ∷ record { from = 1; to = 2; cost = 3 } ∷ record { from = 0; to = 2; cost = 9 } ∷ [];
+    }
+
+unfoldable pub fresh : Direction → Cache
+unfolding little opened
+fresh dir = opened dir little 16
+
+unfoldable pub order0 : Told
+unfolding order fresh
+order0 = order (fresh forward) (0 ∷ []) (2 ∷ [])
+
+unfoldable pub order1 : Told
+unfolding order0
+order1 = order (order0 .cache) (0 ∷ []) (2 ∷ [])
+
+unfoldable pub order2 : Told
+unfolding order1
+order2 = order (order1 .cache) (1 ∷ []) (3 ∷ [])
+
+unfoldable pub order3 : Told
+unfolding order2
+order3 = order (order2 .cache) (2 ∷ []) (0 ∷ [])
+
+unfoldable pub order4 : Told
+unfolding order fresh
+order4 = order (fresh backward) (0 ∷ []) (2 ∷ [])
+
+-- F,0,2
+row0 : row order0 ≡ record { reply = answered (solved 7 2); waits = 2; tickets = 4; path = 0 ∷ 0 ∷ 1 ∷ 1 ∷ 2 ∷ [] }
+unfolding row order0
+row0 = refl
+
+-- F,0,2
+row1 : row order1 ≡ record { reply = answered (solved 7 2); waits = 1; tickets = 0; path = 0 ∷ 0 ∷ 1 ∷ 1 ∷ 2 ∷ [] }
+unfolding row order1
+row1 = refl
+
+-- F,1,3
+row2 : row order2 ≡ record { reply = answered noPath; waits = 1; tickets = 2; path = [] }
+unfolding row order2
+row2 = refl
+
+-- F,2,0
+row3 : row order3 ≡ record { reply = answered noPath; waits = 1; tickets = 0; path = [] }
+unfolding row order3
+row3 = refl
+
+-- B,0,2
+row4 : row order4 ≡ record { reply = answered (solved 7 2); waits = 2; tickets = 4; path = 0 ∷ 0 ∷ 1 ∷ 1 ∷ 2 ∷ [] }
+unfolding row order4
+row4 = refl
+
+-- the same sheet made to the reference
+unfoldable pub reference0 : Told
+unfolding referenceOrder fresh
+reference0 = referenceOrder (fresh forward) (0 ∷ []) (2 ∷ [])
+
+unfoldable pub reference1 : Told
+unfolding reference0
+reference1 = referenceOrder (reference0 .cache) (0 ∷ []) (2 ∷ [])
+
+unfoldable pub reference2 : Told
+unfolding reference1
+reference2 = referenceOrder (reference1 .cache) (1 ∷ []) (3 ∷ [])
+
+unfoldable pub reference3 : Told
+unfolding reference2
+reference3 = referenceOrder (reference2 .cache) (2 ∷ []) (0 ∷ [])
+
+unfoldable pub reference4 : Told
+unfolding referenceOrder fresh
+reference4 = referenceOrder (fresh backward) (0 ∷ []) (2 ∷ [])
+
+reference-row0 : row reference0 ≡ record { reply = answered (solved 7 2); waits = 2; tickets = 4; path = 0 ∷ 0 ∷ 1 ∷ 1 ∷ 2 ∷ [] }
+unfolding row reference0
+reference-row0 = refl
+
+reference-row1 : row reference1 ≡ record { reply = answered (solved 7 2); waits = 1; tickets = 0; path = 0 ∷ 0 ∷ 1 ∷ 1 ∷ 2 ∷ [] }
+unfolding row reference1
+reference-row1 = refl
+
+reference-row2 : row reference2 ≡ record { reply = answered noPath; waits = 1; tickets = 2; path = [] }
+unfolding row reference2
+reference-row2 = refl
+
+reference-row3 : row reference3 ≡ record { reply = answered noPath; waits = 1; tickets = 0; path = [] }
+unfolding row reference3
+reference-row3 = refl
+
+reference-row4 : row reference4 ≡ record { reply = answered (solved 7 2); waits = 2; tickets = 4; path = 0 ∷ 0 ∷ 1 ∷ 1 ∷ 2 ∷ [] }
+unfolding row reference4
+reference-row4 = refl
+
+-- the trees that the sheet leaves, with either
+abbrev pub leftForward : List Tree
+leftForward =
+    record {
+      start = 0;
+      nodes = record { vertex = 0; cost = 0; parent = absent; edge = absent }
+          ∷ record { vertex = 1; cost = 4; parent = 0; edge = 0 }
+          ∷ record { vertex = 2; cost = 9; parent = 0; edge = 2 }
+          ∷ record { vertex = 2; cost = 7; parent = 1; edge = 1 }
+          ∷ [];
+      waiting = [];
+      closed = 1 ∷ 2 ∷ 4 ∷ 0 ∷ [];
+    }
+    ∷ record {
+      start = 1;
+      nodes = record { vertex = 1; cost = 5; parent = absent; edge = absent } ∷ record { vertex = 2; cost = 8; parent = 0; edge = 1 } ∷ [];
+      waiting = [];
+      closed = 0 ∷ 1 ∷ 2 ∷ 0 ∷ [];
+    }
+    ∷ []
+
+abbrev pub leftBackward : List Tree
+leftBackward =
+    record {
+      start = 2;
+      nodes = record { vertex = 2; cost = 0; parent = absent; edge = absent }
+          ∷ record { vertex = 0; cost = 9; parent = 0; edge = 2 }
+          ∷ record { vertex = 1; cost = 3; parent = 0; edge = 1 }
+          ∷ record { vertex = 0; cost = 7; parent = 2; edge = 0 }
+          ∷ [];
+      waiting = [];
+      closed = 4 ∷ 3 ∷ 1 ∷ 0 ∷ [];
+    }
+    ∷ []
+
+left-forward : order3 .cache .trees ≡ leftForward
+unfolding order3
+left-forward = refl
+
+left-backward : order4 .cache .trees ≡ leftBackward
+unfolding order4
+left-backward = refl
+
+reference-left-forward : reference3 .cache .trees ≡ leftForward
+unfolding reference3
+reference-left-forward = refl
+
+reference-left-backward : reference4 .cache .trees ≡ leftBackward
+unfolding reference4
+reference-left-backward = refl
+
+-- they are sound
+sound-forward : soundTreesb (order3 .cache .domain) (order3 .cache .trees) ≡ true
+unfolding soundTreesb order3
+sound-forward = refl
+
+sound-backward : soundTreesb (order4 .cache .domain) (order4 .cache .trees) ≡ true
+unfolding soundTreesb order4
+sound-backward = refl
+
+-- ---- on a fresh cache
+
+-- F,0 1,2
+both : row (order (fresh forward) (0 ∷ 1 ∷ []) (2 ∷ [])) ≡ record { reply = answered (solved 7 2); waits = 2; tickets = 6; path = 0 ∷ 0 ∷ 1 ∷ 1 ∷ 2 ∷ [] }
+unfolding row order fresh
+both = refl
+
+reference-both : row (referenceOrder (fresh forward) (0 ∷ 1 ∷ []) (2 ∷ [])) ≡ record { reply = answered (solved 7 2); waits = 2; tickets = 6; path = 0 ∷ 0 ∷ 1 ∷ 1 ∷ 2 ∷ [] }
+unfolding row referenceOrder fresh
+reference-both = refl
+
+-- F,0,0: the goal equals the start
+self : row (order (fresh forward) (0 ∷ []) (0 ∷ [])) ≡ record { reply = answered (solved 0 0); waits = 2; tickets = 2; path = 0 ∷ [] }
+unfolding row order fresh
+self = refl
+
+reference-self : row (referenceOrder (fresh forward) (0 ∷ []) (0 ∷ [])) ≡ record { reply = answered (solved 0 0); waits = 2; tickets = 2; path = 0 ∷ [] }
+unfolding row referenceOrder fresh
+reference-self = refl
+
+-- B,3,3
+self-backward : row (order (fresh backward) (3 ∷ []) (3 ∷ [])) ≡ record { reply = answered (solved 0 0); waits = 1; tickets = 1; path = 3 ∷ [] }
+unfolding row order fresh
+self-backward = refl
+
+-- ---- empty lists
+
+-- F,,2
+no-start : row (order (fresh forward) [] (2 ∷ [])) ≡ record { reply = answered noPath; waits = 1; tickets = 0; path = [] }
+unfolding row order fresh
+no-start = refl
+
+-- F,0,
+no-goal : row (order (fresh forward) (0 ∷ []) []) ≡ record { reply = answered noPath; waits = 1; tickets = 4; path = [] }
+unfolding row order fresh
+no-goal = refl
+
+-- B,,2
+no-start-backward : row (order (fresh backward) [] (2 ∷ [])) ≡ record { reply = answered noPath; waits = 1; tickets = 4; path = [] }
+unfolding row order fresh
+no-start-backward = refl
+
+-- B,0,
+no-goal-backward : row (order (fresh backward) (0 ∷ []) []) ≡ record { reply = answered noPath; waits = 1; tickets = 0; path = [] }
+unfolding row order fresh
+no-goal-backward = refl
+
+-- ---- chains
+
+abbrev pub edgesFrom : ℕ → ℕ → List Edge
+edgesFrom zero i = []
+edgesFrom (suc n) i = record { from = i; to = suc i; cost = 1 } ∷ edgesFrom n (suc i)
+
+-- n vertices, each with an edge to the next
+unfoldable pub chain : ℕ → Graph
+chain n = record { initial = replicate n 0; edges = edgesFrom (n - 1) 0 }
+
+chain-of-10 : row (order (opened forward (chain 10) 16) (0 ∷ []) (9 ∷ [])) ≡ record { reply = answered (solved 9 9); waits = 1; tickets = 10; path = 0 ∷ 0 ∷ 1 ∷ 1 ∷ 2 ∷ 2 ∷ 3 ∷ 3 ∷ 4 ∷ 4 ∷ 5 ∷ 5 ∷ 6 ∷ 6 ∷ 7 ∷ 7 ∷ 8 ∷ 8 ∷ 9 ∷ [] }
+unfolding row order opened chain
+chain-of-10 = refl
+
+chain-of-11 : row (order (opened forward (chain 11) 16) (0 ∷ []) (10 ∷ [])) ≡ record { reply = answered (solved 10 10); waits = 2; tickets = 11; path = 0 ∷ 0 ∷ 1 ∷ 1 ∷ 2 ∷ 2 ∷ 3 ∷ 3 ∷ 4 ∷ 4 ∷ 5 ∷ 5 ∷ 6 ∷ 6 ∷ 7 ∷ 7 ∷ 8 ∷ 8 ∷ 9 ∷ 9 ∷ 10 ∷ [] }
+unfolding row order opened chain
+chain-of-11 = refl
+
+chain-of-10-backward : row (order (opened backward (chain 10) 16) (0 ∷ []) (9 ∷ [])) ≡ record { reply = answered (solved 9 9); waits = 1; tickets = 10; path = 0 ∷ 0 ∷ 1 ∷ 1 ∷ 2 ∷ 2 ∷ 3 ∷ 3 ∷ 4 ∷ 4 ∷ 5 ∷ 5 ∷ 6 ∷ 6 ∷ 7 ∷ 7 ∷ 8 ∷ 8 ∷ 9 ∷ [] }
+unfolding row order opened chain
+chain-of-10-backward = refl
+
+-- ---- edges 0 to 1 and back at cost 0; vertex 2 is out of reach
+
+unfoldable pub loop : Graph
+loop = record { initial = 0 ∷ 0 ∷ 0 ∷ []; edges = record { from = 0; to = 1; cost = 0 } ∷ record { from = 1; to = 0; cost = 0 } ∷ [] }
+
+looped : row (order (opened forward loop 16) (0 ∷ []) (2 ∷ [])) ≡ record { reply = answered noPath; waits = 1; tickets = 2; path = [] }
+unfolding row order opened loop
+looped = refl
+
+looped-backward : row (order (opened backward loop 16) (0 ∷ []) (2 ∷ [])) ≡ record { reply = answered noPath; waits = 1; tickets = 1; path = [] }
+unfolding row order opened loop
+looped-backward = refl
+
+-- ---- the empty graph and empty lists
+
+abbrev pub nothing : Graph
+nothing = record { initial = []; edges = [] }
+
+empty-forward : row (order (opened forward nothing 16) [] []) ≡ record { reply = answered noPath; waits = 1; tickets = 0; path = [] }
+unfolding row order opened
+empty-forward = refl
+
+empty-backward : row (order (opened backward nothing 16) [] []) ≡ record { reply = answered noPath; waits = 1; tickets = 0; path = [] }
+unfolding row order opened
+empty-backward = refl
+
+-- ---- refused orders leave the cache as it was
+
+-- F,0,4: vertex 4 is none of the four
+no-such-vertex : order (fresh forward) (0 ∷ []) (4 ∷ []) ≡ turnedAway (fresh forward) 3
+unfolding order fresh
+no-such-vertex = refl
+
+-- 65 starts; 65 goals; of these one is no vertex too; and 64 of each pass
+over-limit : order (fresh forward) (replicate 65 0) (2 ∷ []) ≡ turnedAway (fresh forward) 4
+unfolding order fresh
+over-limit = refl
+
+over-limit-goals : order (fresh forward) (0 ∷ []) (4 ∷ replicate 64 2) ≡ turnedAway (fresh forward) 4
+unfolding order fresh
+over-limit-goals = refl
+
+within-limit : row (order (fresh forward) (replicate 64 0) (replicate 64 2)) ≡ record { reply = answered (solved 7 2); waits = 2; tickets = 4; path = 0 ∷ 0 ∷ 1 ∷ 1 ∷ 2 ∷ [] }
+unfolding row order fresh
+within-limit = refl
+
+-- one slot: two starts with an initial cost outnumber it, a start twice and one without an initial cost do not
+trees-full : order (opened forward little 1) (0 ∷ 1 ∷ []) (2 ∷ []) ≡ turnedAway (opened forward little 1) 6
+unfolding order opened little
+trees-full = refl
+
+trees-fit : row (order (opened forward little 1) (0 ∷ 0 ∷ 3 ∷ []) (2 ∷ [])) ≡ record { reply = answered (solved 7 2); waits = 2; tickets = 4; path = 0 ∷ 0 ∷ 1 ∷ 1 ∷ 2 ∷ [] }
+unfolding row order opened little
+trees-fit = refl
+
+-- ---- equal costs: the ticket of the lower node number is taken first
+
+unfoldable pub double : Graph
+double =
+    record {
+      initial = 0 ∷ absent ∷ absent ∷ [];
+      edges = record { from = 0; to = 1; cost = 1 } ∷ record { from = 0; to = 1; cost = 1 } ∷ record { from = 0; to = 2; cost = 0 } ∷ [];
+    }
+
+ties : row (order (opened forward double 16) (0 ∷ []) (1 ∷ [])) ≡ record { reply = answered (solved 1 1); waits = 2; tickets = 4; path = 0 ∷ 0 ∷ 1 ∷ [] }
+unfolding row order opened double
+ties = refl
