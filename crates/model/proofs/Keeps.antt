@@ -123,7 +123,7 @@ walk-length d ts s = rounds-length d (s .«tree_count») 0 (record { trees = ts;
 
 -- ---- a new tree
 
-empty-word : (n x : ℕ) → closedAt (replicate n 0) x ≡ 0
+pub empty-word : (n x : ℕ) → closedAt (replicate n 0) x ≡ 0
 empty-word zero x = refl
 empty-word (suc n) zero = refl
 empty-word (suc n) (suc x) = empty-word n x

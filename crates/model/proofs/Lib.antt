@@ -17,3 +17,10 @@ pub mod Opens
 pub mod Chain
 pub mod Demand3
 pub mod Examples
+pub mod Retraced
+pub mod Refines
+pub mod RefinesGrow
+pub mod RefinesRead
+pub mod RefinesRound
+pub mod RefinesStep
+pub mod RefinesEvents
