@@ -17,12 +17,12 @@ use Rattle.model.specs.declared.Search.{Search}
 use Rattle.model.specs.declared.Solution.the-variants.{At}
 use Rattle.model.specs.Lists.{mem, allBelow}
 use Rattle.model.specs.Answers.{Reply, answered, refused}
-use Rattle.model.specs.Graph.{Graph, Domain, Direction, forward, backward, Accepted, Leads, total, totalCost, pathWords, SearchPath, absent, edgeCount, domain, reversed, initialCost}
+use Rattle.model.specs.Graph.{Graph, Domain, Direction, forward, backward, Accepted, Leads, total, totalCost, pathWords, SearchPath, vertexCount, edgeCount, domain, reversed, initialCost}
 use Rattle.model.specs.Tree.{Tree, node, evaluation}
 use Rattle.model.specs.Path.{path, words}
 use Rattle.model.specs.Sound.{tree, Sound, SoundTrees}
-use Rattle.model.specs.Search.{entry, boundOf, bound, plantAll, rootsOf, goalsOf, newSearch}
-use Rattle.model.specs.Calls.{Cache, SoundCache, opened, firstFault, initializeFaults, initializeBy, initialize, step, retrace}
+use Rattle.model.specs.Search.{entry, boundOf, bound, rootsOf, goalsOf, newSearch}
+use Rattle.model.specs.Calls.{Cache, SoundCache, opened, firstFault, plantedFor, initializeFaults, initializeBy, initialize, step, retrace}
 use Rattle.model.specs.Demands.{Call, afterAll, Act, ownStep, ownRetrace, other, Event, stepped, retraced, events, Chain, ends, own-step, own-retrace, between, distinct, treesOf, waitLimit, Outcome, unreachable, reached, LeastPath, Right, Owed}
 use Rattle.model.proofs.Least.{path-of}
 use Rattle.model.proofs.Turns.{Under}
@@ -125,77 +125,94 @@ edges-are backward g = reverse-count g
 
 -- ---- the search as opened
 
-module _ (dir : Direction) (g : Graph) (acc : Accepted g) (slots : ℕ) (ts : List Tree) (ok : SoundTrees (domain dir g) ts) (h : length ts ≤ slots) (ss gs : List ℕ) where
-  abbrev d : Domain
-  d = domain dir g
+-- an accepted opening has no fault
+pub no-fault : (c : Cache) (ss gs : List ℕ) → (initialize c ss gs) .reply ≡ answered tt → firstFault (initializeFaults c ss gs) ≡ none
+unfolding initialize
+no-fault c ss gs e = go (firstFault (initializeFaults c ss gs)) refl e
+  where
+    clash : (n : ℕ) → _≡_ {A = Reply (Unit {0})} (refused n 0) (answered tt) → ⊥
+    clash n z = let y : _≡_ {A = ℕ} 0 1 = cc in omega arith
 
+    go : (o : Option ℕ) → firstFault (initializeFaults c ss gs) ≡ o → (initializeBy o c ss gs) .reply ≡ answered tt → firstFault (initializeFaults c ss gs) ≡ none
+    go none p q = p
+    go (some n) p q = absurd (clash n q)
+
+-- the state in which an accepted opening leaves the search
+module _ (c : Cache) (ss gs : List ℕ) (ok : SoundTrees (c .domain) (c .trees)) (m : MayInitialize c ss gs) where
+  abbrev d : Domain
+  d = c .domain
+
+  abbrev ts : List Tree
+  ts = c .trees
+
+  abbrev vs : List ℕ
+  vs = rootsOf (c .domain .direction) ss gs
+
+  abbrev ws : List ℕ
+  ws = goalsOf (c .domain .direction) ss gs
+
+  abbrev us : List Tree
+  us = (plantedFor c ss gs) .trees
+
+  abbrev s : Search
+  s = newSearch ((plantedFor c ss gs) .entries) (goalsOf (c .domain .direction) ss gs)
+
+  roots-few : (x : Direction) → length (rootsOf x ss gs) ≤ 64
+  roots-few forward = m .few-starts
+  roots-few backward = m .few-goals
+
+  goals-few : (x : Direction) → length (goalsOf x ss gs) ≤ 64
+  goals-few forward = m .few-goals
+  goals-few backward = m .few-starts
+
+  goals-in : (x : Direction) → allBelow (vertexCount (d .graph)) (goalsOf x ss gs) ≡ true
+  goals-in forward = m .goals-below
+  goals-in backward = m .starts-below
+
+  pub opened-state : State (c .domain) (rootsOf (c .domain .direction) ss gs) (goalsOf (c .domain .direction) ss gs) (slotsOf (c .domain) us vs) us s
+  opened-state =
+      record {
+        sound = plants-keep d vs ts ok (roots-below (d .direction) c ss gs m) .0;
+        ready = opened-ready d vs ws ts (roots-few (d .direction)) (goals-few (d .direction)) (goals-in (d .direction));
+        same = opened-goals d vs ws ts (roots-few (d .direction)) (goals-few (d .direction)) (goals-in (d .direction));
+        owned = opened-own d vs ws ts (roots-few (d .direction)) (goals-few (d .direction)) (goals-in (d .direction));
+        rooted = opened-rooted d vs ws ts (roots-few (d .direction)) (goals-few (d .direction)) (goals-in (d .direction));
+      }
+
+module _ (dir : Direction) (g : Graph) (acc : Accepted g) (slots : ℕ) (ts : List Tree) (ok : SoundTrees (domain dir g) ts) (h : length ts ≤ slots) (ss gs : List ℕ) where
   abbrev c : Cache
   c = record { domain = domain dir g; slots = slots; trees = ts }
 
-  abbrev vs : List ℕ
-  vs = rootsOf ((domain dir g) .direction) ss gs
-
-  abbrev ws : List ℕ
-  ws = goalsOf ((domain dir g) .direction) ss gs
-
-  -- an accepted opening has no fault
-  no-fault : (initialize c ss gs) .reply ≡ answered tt → firstFault (initializeFaults c ss gs) ≡ none
-  unfolding initialize
-  no-fault e = go (firstFault (initializeFaults c ss gs)) refl e
-    where
-      clash : (n : ℕ) → _≡_ {A = Reply (Unit {0})} (refused n 0) (answered tt) → ⊥
-      clash n z = let y : _≡_ {A = ℕ} 0 1 = cc in omega arith
-
-      go : (o : Option ℕ) → firstFault (initializeFaults c ss gs) ≡ o → (initializeBy o c ss gs) .reply ≡ answered tt → firstFault (initializeFaults c ss gs) ≡ none
-      go none p q = p
-      go (some n) p q = absurd (clash n q)
-
   module _ (m : MayInitialize c ss gs) where
-    abbrev us : List Tree
-    us = (plantAll (domain dir g) ts (rootsOf ((domain dir g) .direction) ss gs)) .trees
+    abbrev d′ : Domain
+    d′ = domain dir g
 
-    abbrev s : Search
-    s = newSearch ((plantAll (domain dir g) ts (rootsOf ((domain dir g) .direction) ss gs)) .entries) (goalsOf ((domain dir g) .direction) ss gs)
+    abbrev us′ : List Tree
+    us′ = (plantedFor c ss gs) .trees
 
-    roots-few : (x : Direction) → length (rootsOf x ss gs) ≤ 64
-    roots-few forward = m .few-starts
-    roots-few backward = m .few-goals
+    abbrev s′ : Search
+    s′ = newSearch ((plantedFor c ss gs) .entries) (goalsOf ((domain dir g) .direction) ss gs)
 
-    goals-few : (x : Direction) → length (goalsOf x ss gs) ≤ 64
-    goals-few forward = m .few-goals
-    goals-few backward = m .few-starts
-
-    goals-in : (x : Direction) → allBelow (length (d .graph .initial)) (goalsOf x ss gs) ≡ true
-    goals-in forward = m .goals-below
-    goals-in backward = m .starts-below
+    abbrev vs′ : List ℕ
+    vs′ = rootsOf ((domain dir g) .direction) ss gs
 
     abbrev mine : List ℕ
-    mine = slotsOf (domain dir g) us vs
+    mine = slotsOf (domain dir g) us′ vs′
 
-    kept : Keeps d ts us
-    kept = plants-keep d vs ts ok (roots-below (d .direction) c ss gs m)
+    state : State d′ vs′ (goalsOf ((domain dir g) .direction) ss gs) mine us′ s′
+    state = opened-state c ss gs ok m
 
-    state : State d vs ws mine us s
-    state =
-        record {
-          sound = kept .0;
-          ready = opened-ready d vs ws ts (roots-few (d .direction)) (goals-few (d .direction)) (goals-in (d .direction));
-          same = opened-goals d vs ws ts (roots-few (d .direction)) (goals-few (d .direction)) (goals-in (d .direction));
-          owned = opened-own d vs ws ts (roots-few (d .direction)) (goals-few (d .direction)) (goals-in (d .direction));
-          rooted = opened-rooted d vs ws ts (roots-few (d .direction)) (goals-few (d .direction)) (goals-in (d .direction));
-        }
-
-    limit : 1 + lefts d us mine ≤ waitLimit dir g ss gs
+    limit : 1 + lefts d′ us′ mine ≤ waitLimit dir g ss gs
     unfolding waitLimit
     limit =
-        let n : length mine ≡ length (treesOf dir g ss gs) = slots-length d us vs ∙ ap length (trees-are dir g ss gs) in
-        let most : lefts d us mine ≤ length (treesOf dir g ss gs) * (1 + edgeCount g) =
-        subst (λ (k : ℕ). lefts d us mine ≤ k * (1 + edgeCount g)) n (subst (λ (k : ℕ). lefts d us mine ≤ length mine * (1 + k)) (edges-are dir g) (lefts-most d us (kept .0) mine (λ i k. state .owned i k .inside))) in
+        let n : length mine ≡ length (treesOf dir g ss gs) = slots-length d′ us′ vs′ ∙ ap length (trees-are dir g ss gs) in
+        let most : lefts d′ us′ mine ≤ length (treesOf dir g ss gs) * (1 + edgeCount g) =
+        subst (λ (k : ℕ). lefts d′ us′ mine ≤ k * (1 + edgeCount g)) n (subst (λ (k : ℕ). lefts d′ us′ mine ≤ length mine * (1 + k)) (edges-are dir g) (lefts-most d′ us′ (state .sound) mine (λ i k. state .owned i k .inside))) in
         omega arith
 
-    owed : (acts : List Act) → Owed dir g ss gs (events (record { domain = d; slots = slots; trees = us }) s acts)
+    owed : (acts : List Act) → Owed dir g ss gs (events (record { domain = d′; slots = slots; trees = us′ }) s′ acts)
     owed acts =
-        let t = tells d (accepted-domain dir g acc) vs ws mine slots g (paths dir g) acts us s (omega (arith, m .room, h)) state refl in
+        let t = tells d′ (accepted-domain dir g acc) vs′ (goalsOf ((domain dir g) .direction) ss gs) mine slots g (paths dir g) acts us′ s′ (omega (arith, m .room, h)) state refl in
         record {
           first = t .first;
           last = t .last;
@@ -210,7 +227,7 @@ module _ (dir : Direction) (g : Graph) (acc : Accepted g) (slots : ℕ) (ts : Li
   pub owed-from : (initialize c ss gs) .reply ≡ answered tt → (acts : List Act) → Owed dir g ss gs (events ((initialize c ss gs) .cache) ((initialize c ss gs) .search) acts)
   unfolding initialize
   owed-from e acts =
-      let z = no-fault e in
+      let z = no-fault c ss gs e in
       subst (λ (o : Option ℕ). Owed dir g ss gs (events ((initializeBy o c ss gs) .cache) ((initializeBy o c ss gs) .search) acts)) (sym z)
       (owed (may-initialize c ss gs z) acts)
 

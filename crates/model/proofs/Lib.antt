@@ -24,3 +24,4 @@ pub mod RefinesRead
 pub mod RefinesRound
 pub mod RefinesStep
 pub mod RefinesEvents
+pub mod Demand2
