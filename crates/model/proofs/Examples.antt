@@ -14,6 +14,7 @@ use Rattle.model.specs.Tree.{Tree}
 use Rattle.model.specs.Path.{path, words}
 use Rattle.model.specs.Sound.{soundTreesb}
 use Rattle.model.specs.Calls.{Cache, opened, withTrees, firstFault, initializeFaults, initialize, step, retrace}
+use Rattle.model.specs.Demands.{waitLimit}
 use Rattle.model.specs.Reference as reference
 
 -- ---- an order: a search is opened, stepped until it answers, and its path is shown
@@ -401,3 +402,72 @@ double =
 ties : row (order (opened forward double 16) (0 ∷ []) (1 ∷ [])) ≡ record { reply = answered (solved 1 1); waits = 2; tickets = 4; path = 0 ∷ 0 ∷ 1 ∷ [] }
 unfolding row order opened double
 ties = refl
+
+-- ---- where a port goes astray
+
+-- two goals at equal cost: the second find replaces the first entry's solution, and is not strictly cheaper than the best
+unfoldable pub fork : Graph
+fork = record { initial = 0 ∷ absent ∷ absent ∷ []; edges = record { from = 0; to = 1; cost = 1 } ∷ record { from = 0; to = 2; cost = 1 } ∷ [] }
+
+equal-finds : row (order (opened forward fork 16) (0 ∷ []) (1 ∷ 2 ∷ [])) ≡ record { reply = answered (solved 1 1); waits = 2; tickets = 3; path = 0 ∷ 1 ∷ 2 ∷ [] }
+unfolding row order opened fork
+equal-finds = refl
+
+-- from 0 straight to 13 at cost 50 and to 14 at cost 60, from 1 to 13 by twelve edges of cost 1
+unfoldable pub detour : Graph
+detour = record { initial = replicate 15 0; edges = record { from = 0; to = 13; cost = 50 } ∷ record { from = 0; to = 14; cost = 60 } ∷ edgesFrom 12 1 }
+
+abbrev pub detourPath : List ℕ
+detourPath = 1 ∷ 2 ∷ 2 ∷ 3 ∷ 3 ∷ 4 ∷ 4 ∷ 5 ∷ 5 ∷ 6 ∷ 6 ∷ 7 ∷ 7 ∷ 8 ∷ 8 ∷ 9 ∷ 9 ∷ 10 ∷ 10 ∷ 11 ∷ 11 ∷ 12 ∷ 12 ∷ 13 ∷ 13 ∷ []
+
+-- F,0 1,13: the first find is not the best
+cheaper-later : row (order (opened forward detour 16) (0 ∷ 1 ∷ []) (13 ∷ [])) ≡ record { reply = answered (solved 12 12); waits = 2; tickets = 16; path = detourPath }
+unfolding row order opened detour
+cheaper-later = refl
+
+-- F,0,13, then F,0 1,13: entry 0 finds by lookup in both steps, and does not grow
+unfoldable pub detour0 : Told
+unfolding order opened detour
+detour0 = order (opened forward detour 16) (0 ∷ []) (13 ∷ [])
+
+looked-up-twice : row (order (detour0 .cache) (0 ∷ 1 ∷ []) (13 ∷ [])) ≡ record { reply = answered (solved 12 12); waits = 2; tickets = 13; path = detourPath }
+unfolding row order detour0
+looked-up-twice = refl
+
+-- from 0 to 4 at cost 1; from 1 to 2 at 3 and at 4, to 3 at 5, and on to 5
+unfoldable pub dear : Graph
+dear =
+    record {
+      initial = replicate 6 0;
+      edges = record { from = 0; to = 4; cost = 1 }
+          ∷ record { from = 1; to = 2; cost = 3 }
+          ∷ record { from = 1; to = 2; cost = 4 }
+          ∷ record { from = 1; to = 3; cost = 5 }
+          ∷ record { from = 3; to = 5; cost = 1 }
+          ∷ [];
+    }
+
+-- F,1,1 closes 1 and 2, and leaves a ticket of vertex 2 and one of vertex 3
+unfoldable pub dear0 : Told
+unfolding order opened dear
+dear0 = order (opened forward dear 16) (1 ∷ []) (1 ∷ [])
+
+-- F,0 1,4: of entry 1 the ticket of vertex 2 is skipped, above the bound as it is; then vertex 3 is closed, its edges are queued, and the
+-- bound stops the growing
+unfoldable pub dear1 : Told
+unfolding dear0
+dear1 = order (dear0 .cache) (0 ∷ 1 ∷ []) (4 ∷ [])
+
+skipped-above-bound : row dear1 ≡ record { reply = answered (solved 1 1); waits = 1; tickets = 4; path = 0 ∷ 0 ∷ 4 ∷ [] }
+unfolding row dear1
+skipped-above-bound = refl
+
+-- F,1,5: so the edge to 5 waits
+queued-above-bound : row (order (dear1 .cache) (1 ∷ []) (5 ∷ [])) ≡ record { reply = answered (solved 6 2); waits = 1; tickets = 1; path = 1 ∷ 3 ∷ 3 ∷ 4 ∷ 5 ∷ [] }
+unfolding row dear1
+queued-above-bound = refl
+
+-- the wait limit is met: no tree, and one wait (empty-forward)
+limit-met : waitLimit forward nothing [] [] ≡ 1
+unfolding waitLimit
+limit-met = refl
