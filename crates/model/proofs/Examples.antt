@@ -63,7 +63,7 @@ unfolding drive initialize
 order c ss gs =
     let r = initialize c ss gs in
     elim (r .reply) [
-      | answered u ↦ drive 100 0 0 (r .cache) (r .search)
+      | answered u ↦ drive 8 0 0 (r .cache) (r .search)
       | refused n line ↦ record { cache = r .cache; reply = refused n line; waits = 0; tickets = 0; path = [] }
     ]
 
@@ -101,7 +101,7 @@ referenceDrive (suc f) w k c m =
 
 abbrev pub referenceOrderBy : Option ℕ → Cache → reference.Opened → Told
 referenceOrderBy (some n) c o = turnedAway c n
-referenceOrderBy none c o = referenceDrive 100 0 (spent (o .trees)) (withTrees c (o .trees)) (o .memory)
+referenceOrderBy none c o = referenceDrive 8 0 (spent (o .trees)) (withTrees c (o .trees)) (o .memory)
 
 unfoldable pub referenceOrder : Cache → List ℕ → List ℕ → Told
 unfolding referenceDrive reference.initialize initialize
@@ -425,10 +425,10 @@ cheaper-later : row (order (opened forward detour 16) (0 ∷ 1 ∷ []) (13 ∷ [
 unfolding row order opened detour
 cheaper-later = refl
 
--- F,0,13, then F,0 1,13: entry 0 finds by lookup in both steps, and does not grow
+-- F,0,0 closes 0 and 13; then F,0 1,13: entry 0 finds by lookup in both steps, remembers nothing, and does not grow
 unfoldable pub detour0 : Told
 unfolding order opened detour
-detour0 = order (opened forward detour 16) (0 ∷ []) (13 ∷ [])
+detour0 = order (opened forward detour 16) (0 ∷ []) (0 ∷ [])
 
 looked-up-twice : row (order (detour0 .cache) (0 ∷ 1 ∷ []) (13 ∷ [])) ≡ record { reply = answered (solved 12 12); waits = 2; tickets = 13; path = detourPath }
 unfolding row order detour0
