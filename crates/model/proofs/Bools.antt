@@ -108,20 +108,6 @@ at-ascends b (x ∷ xs) a = true-and (leb b x) (ascendsb (suc x) xs) (le-leb b x
 
 -- ---- membership
 
-pub mem-true : (x : ℕ) (l : List ℕ) → mem x l ≡ true → List·Memᴰ x l
-unfolding mem
-mem-true x [] e = absurd (true≢false (sym e))
-mem-true x (y ∷ ys) e = go (mem-true x ys) (or-cases (eqb x y) (mem x ys) e)
-  where
-    go : (mem x ys ≡ true → List·Memᴰ x ys) → (eqb x y ≡ true) ⊎ (mem x ys ≡ true) → List·Memᴰ x (y ∷ ys)
-    go ih (inl z) = List·Memᴰ·head (eqb-true x y z)
-    go ih (inr z) = List·Memᴰ·tail (ih z)
-
-pub true-mem : (x : ℕ) (l : List ℕ) → List·Memᴰ x l → mem x l ≡ true
-unfolding mem
-true-mem x [] m = absurd (List·Memᴰ·not-nil m)
-true-mem x (y ∷ ys) m = elim (List·Memᴰ·cases-cons m) [ inl z ↦ true-or-left (eqb x y) (mem x ys) (eq-eqb x y z) | inr z ↦ true-or-right (eqb x y) (mem x ys) (true-mem x ys z) ]
-
 pub all-below : (n : ℕ) (xs : List ℕ) → allBelow n xs ≡ true → (v : ℕ) → mem v xs ≡ true → v < n
 unfolding mem
 all-below n [] e v h = absurd (true≢false (sym h))

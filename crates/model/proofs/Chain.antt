@@ -1,43 +1,38 @@
 -- A chain of one search's own steps and retraces among other calls: what its events are, and the state in which it is finished.
 -- Assumes nothing.
 use mathlib.Core.Path.{_≡_, refl, sym, ap, ap₂, _∙_, subst}
-use mathlib.Core.Logic.{_⊎_, inl, inr, _≢_}
-use mathlib.Core.Bool.{Bool, true, false, not, _&&_, true≢false}
-use mathlib.Core.Option.{Option, none, some, Option·none-ne-some}
+use mathlib.Core.Logic.{_⊎_, inl, inr}
+use mathlib.Core.Bool.{Bool, true, false, _&&_}
 use mathlib.Core.List.{List, [], _∷_, _++_, List·Memᴰ, List·Memᴰ·head, List·Memᴰ·tail, List·Memᴰ·not-nil, List·Memᴰ·cases-cons}
-use Prim.Native.Nat.{ℕ, zero, suc, _+_, _-_, _*_, _<_, _≤_}
+use Prim.Native.Nat.{ℕ, suc, _+_, _-_, _*_, _<_, _≤_}
 use native.Mathlib.Omega.{arith}
-use borrow.Author.Tests.{not-false}
-use lib.Dec.{eqb, ltb}
-use lib.ListN.{length, getD, length-map}
+use lib.Dec.{ltb}
+use lib.ListN.{length}
 use Rattle.model.specs.declared.CostBound.{CostBound}
-use Rattle.model.specs.declared.CostBound.the-variants.{Unbounded, Bound}
+use Rattle.model.specs.declared.CostBound.the-variants.{Bound}
 use Rattle.model.specs.declared.Solution.{Solution}
 use Rattle.model.specs.declared.Solution.the-variants.{Unsolved, At}
 use Rattle.model.specs.declared.BestSolution.{BestSolution}
 use Rattle.model.specs.declared.BestSolution.the-variants.{NoBest, Best}
-use Rattle.model.specs.declared.TreeMemory.{TreeMemory}
 use Rattle.model.specs.declared.Search.{Search}
 use Rattle.model.specs.Lists.{mem}
-use Rattle.model.specs.Answers.{Reply, answered, refused, Status, waiting, solved, noPath}
-use Rattle.model.specs.Graph.{Graph, Domain, Direction, forward, backward, Accepted, Leads, total, totalCost, pathWords, SearchPath, MayStart, absent, edgeCount, vertexCount, domain, reversed, initialCost}
-use Rattle.model.specs.Tree.{Tree, Node, node, evaluation}
-use Rattle.model.specs.Path.{path, movesOf, words}
-use Rattle.model.specs.Sound.{tree, noTree, Sound, SoundTrees}
-use Rattle.model.specs.Search.{entry, goals, boundOf, bound, Walk, walk, withExhausted, plantAll, rootsOf, goalsOf, newSearch}
-use Rattle.model.specs.Valid.{valid}
-use Rattle.model.specs.Calls.{Cache, SoundCache, opened, firstFault, orElse, initializeFaults, initializeBy, AfterInitialize, initialize, stepIf, stepBy, step, AfterStep, finalStatus, statusAt, shown, shownBy, shownTree, shownTreeBy, isBest, solvedAlready, movesAt, wordsAt, written, retraceFaults, retraceBy, retrace, AfterRetrace}
-use Rattle.model.specs.Demands.{Call, after, afterAll, Act, ownStep, ownRetrace, other, Event, stepped, retraced, events, distinct, treesOf, waitLimit, Outcome, unreachable, reached, LeastPath, Right, statusOf, notSolved, shownIf, shownOf, Early, Late, Every, steps, Owed}
-use Rattle.model.proofs.Least.{path-of}
+use Rattle.model.specs.Answers.{Reply, answered, Status, waiting, solved}
+use Rattle.model.specs.Graph.{Graph, Domain, Direction, forward, backward, Accepted, Leads, total, pathWords, edgeCount, domain, initialCost}
+use Rattle.model.specs.Tree.{Tree, node, evaluation}
+use Rattle.model.specs.Path.{path, words}
+use Rattle.model.specs.Sound.{tree, Sound, SoundTrees}
+use Rattle.model.specs.Search.{entry, goals, boundOf, bound, Walk, walk}
+use Rattle.model.specs.Calls.{Cache, stepIf, step, AfterStep, finalStatus, statusAt, shown, shownBy, shownTree, shownTreeBy, isBest, retrace, AfterRetrace}
+use Rattle.model.specs.Demands.{Call, after, Act, ownStep, ownRetrace, other, Event, stepped, retraced, events, Outcome, unreachable, reached, statusOf, notSolved, shownIf, shownOf, Early, Late, Every, steps}
 use Rattle.model.proofs.Later.{path-later}
 use Rattle.model.proofs.Room.{nodes-le, queue-le}
 use Rattle.model.proofs.Turns.{Holds, Under}
-use Rattle.model.proofs.Keeps.{AllLater, all-refl, Keeps, MayInitialize, may-initialize, roots-below, plants-keep, walk-length, KeptCache, kept-sound, accepted-kept, initialize-keeps, after-keeps, after-all-keeps}
-use Rattle.model.proofs.Rounds.{EntryOk, BestOk, BestsOk, Ready, ready-later, bound-later, Covered, Gave, Walked, walked}
+use Rattle.model.proofs.Faults.{step-if, shownWith, retraceAs, retrace-as, retrace-shown}
+use Rattle.model.proofs.Keeps.{AllLater, Keeps, walk-length, KeptCache, after-keeps}
+use Rattle.model.proofs.Rounds.{BestsOk, Ready, ready-later, Gave, Walked, walked}
 use Rattle.model.proofs.Valid.{own-valid}
-use Rattle.model.proofs.Opens.{Allowed, allowedb, allowed-true, slotsOf, Own, opened-own, opened-goals, opened-ready, opened-rooted, distinct-from}
-use Rattle.model.proofs.Reversed.{back, back-length, accepted-domain, leads-back, total-back, back-leads, back-total, reverse-count, domain-forward, domain-backward, initial-forward, initial-backward}
-use Rattle.model.proofs.Words.{words-forward, words-backward}
+use Rattle.model.proofs.Opens.{Allowed, Own}
+use Rattle.model.proofs.Reversed.{back, back-length}
 
 -- ---- how many tickets are left in the search's trees
 
@@ -114,27 +109,19 @@ abbrev pub outcomeWords : Graph → Outcome → List ℕ
 outcomeWords g unreachable = []
 outcomeWords g (reached k a ls) = pathWords g a ls
 
-abbrev outcomeMoves : Outcome → ℕ
-outcomeMoves unreachable = 0
-outcomeMoves (reached k a ls) = length ls
-
--- a retrace that is refused by none of 8 and 9
-abbrev retraceIf : Bool → ℕ → List ℕ → List ℕ → AfterRetrace
-retraceIf true m ws p = record { reply = refused 10 0; path = p }
-retraceIf false m ws p = record { reply = answered m; path = written ws p }
+shown-with : (q : Bool) (g : Graph) (a : ℕ) (ls p : List ℕ) → shownIf q g a ls p ≡ shownWith q (length ls) (pathWords g a ls) p
+shown-with true g a ls p = refl
+shown-with false g a ls p = refl
 
 shown-is : (dir : Direction) (g : Graph) (t : Tree) (n : ℕ) (p : List ℕ) → words dir (t .nodes) n ≡ outcomeWords g (outcomeAt dir t (At n))
-    → retraceIf (ltb (length p) (1 + 2 * movesOf (t .nodes) n)) (movesOf (t .nodes) n) (words dir (t .nodes) n) p ≡ shownOf g (outcomeAt dir t (At n)) p
-shown-is forward g t n p w = go (ltb (length p) (1 + 2 * movesOf (t .nodes) n))
-  where
-    go : (b : Bool) → retraceIf b (movesOf (t .nodes) n) (words forward (t .nodes) n) p ≡ shownIf b g (t .start) (path (t .nodes) n) p
-    go true = refl
-    go false = rw w
-shown-is backward g t n p w = rw (back-length (path (t .nodes) n)) (go (ltb (length p) (1 + 2 * movesOf (t .nodes) n)))
-  where
-    go : (b : Bool) → retraceIf b (movesOf (t .nodes) n) (words backward (t .nodes) n) p ≡ shownIf b g ((node (t .nodes) n) .vertex) (back (path (t .nodes) n)) p
-    go true = refl
-    go false = rw (w, back-length (path (t .nodes) n))
+    → shownOf g (outcomeAt dir t (At n)) p ≡ retraceAs true true dir t (At n) p
+shown-is forward g t n p w =
+    let ls : List ℕ = path (t .nodes) n in
+    shown-with (ltb (length p) (1 + 2 * length ls)) g (t .start) ls p ∙ retrace-shown forward t n p (length ls) (pathWords g (t .start) ls) refl (sym w)
+shown-is backward g t n p w =
+    let ls : List ℕ = back (path (t .nodes) n) in
+    let a : ℕ = (node (t .nodes) n) .vertex in
+    shown-with (ltb (length p) (1 + 2 * length ls)) g a ls p ∙ retrace-shown backward t n p (length ls) (pathWords g a ls) (back-length (path (t .nodes) n)) (sym w)
 
 module _ (d : Domain) (acc : Accepted (d .graph)) (vs gs mine : List ℕ) where
   abbrev O : ℕ → Type 0
@@ -247,43 +234,32 @@ module _ (d : Domain) (acc : Accepted (d .graph)) (vs gs mine : List ℕ) where
     at ts = record { domain = d; slots = slots; trees = ts }
 
     own-step : (ts : List Tree) (s : Search) → St ts s → step (at ts) s ≡ stepIf (s .exhausted) (at ts) s
-    unfolding step
-    own-step ts s st = ap (λ (t : Bool). stepBy (orElse (not t) 8 none) (at ts) s) (own-valid O d ts (st .sound) s (st .ready))
+    own-step ts s st = step-if (at ts) s (own-valid O d ts (st .sound) s (st .ready))
 
-    abbrev laterFaults : List Tree → Search → List ℕ → Bool → Option ℕ
-    laterFaults ts s p x = orElse (not x) 9 (orElse (ltb (length p) (1 + 2 * movesAt (shownTree ts s) (shown s))) 10 none)
+    abbrev showing : List Tree → Search → List ℕ → Bool → AfterRetrace
+    showing ts s p x = retraceAs true x (d .direction) (shownTree ts s) (shown s) p
 
-    own-retrace : (ts : List Tree) (s : Search) (p : List ℕ) → St ts s → retrace (at ts) s p ≡ retraceBy (laterFaults ts s p (solvedAlready s)) (at ts) s p
-    unfolding retrace
-    own-retrace ts s p st =
-        ap (λ (t : Bool). retraceBy (orElse (not t) 8 (laterFaults ts s p (solvedAlready s))) (at ts) s p) (own-valid O d ts (st .sound) s (st .ready))
+    own-retrace : (ts : List Tree) (s : Search) (p : List ℕ) → St ts s → (x : Bool) → s .exhausted ≡ x → retrace (at ts) s p ≡ showing ts s p (x && isBest (s .«best_solution»))
+    own-retrace ts s p st x e =
+        retrace-as (at ts) s p
+        ∙ ap₂ (λ (v x : Bool). retraceAs v (x && isBest (s .«best_solution»)) (d .direction) (shownTree ts s) (shown s) p) (own-valid O d ts (st .sound) s (st .ready)) e
 
     retrace-early : (ts : List Tree) (s : Search) (p : List ℕ) → St ts s → s .exhausted ≡ false → retrace (at ts) s p ≡ notSolved p
-    retrace-early ts s p st x = own-retrace ts s p st ∙ ap (λ (t : Bool). retraceBy (laterFaults ts s p (t && isBest (s .«best_solution»))) (at ts) s p) x
+    retrace-early ts s p st x = own-retrace ts s p st false x
 
     module _ (g : Graph) (paths : (t : Tree) → Sound d t → (n : ℕ) → n < length (t .nodes) → words (d .direction) (t .nodes) n ≡ outcomeWords g (outcomeAt (d .direction) t (At n))) where
       retrace-late : (ts : List Tree) (s : Search) (p : List ℕ) → St ts s → s .exhausted ≡ true → retrace (at ts) s p ≡ shownOf g (outcomeOf d ts s) p
-      retrace-late ts s p st x =
-          own-retrace ts s p st ∙ ap (λ (t : Bool). retraceBy (laterFaults ts s p (t && isBest (s .«best_solution»))) (at ts) s p) x
-          ∙ elim (shows-cases ts s st) [ inl z ↦ none-case z | inr z ↦ some-case z ]
+      retrace-late ts s p st x = own-retrace ts s p st true x ∙ elim (shows-cases ts s st) [ inl z ↦ none-case z | inr z ↦ some-case z ]
         where
-          none-case : s .«best_solution» ≡ NoBest → retraceBy (laterFaults ts s p (isBest (s .«best_solution»))) (at ts) s p ≡ shownOf g (outcomeOf d ts s) p
-          none-case z = ap (λ (y : BestSolution). retraceBy (laterFaults ts s p (isBest y)) (at ts) s p) z ∙ ap (λ (o : Outcome). shownOf g o p) (sym (shown-none ts s z))
+          none-case : s .«best_solution» ≡ NoBest → showing ts s p (isBest (s .«best_solution»)) ≡ shownOf g (outcomeOf d ts s) p
+          none-case z = ap (λ (y : BestSolution). showing ts s p (isBest y)) z ∙ ap (λ (o : Outcome). shownOf g o p) (sym (shown-none ts s z))
 
-          by-test : (t : Tree) (o : Solution) → (b : Bool) → shownTree ts s ≡ t → shown s ≡ o
-              → retraceBy (orElse b 10 none) (at ts) s p ≡ retraceIf b (movesAt t o) (wordsAt (d .direction) t o) p
-          by-test t o true y z = refl
-          by-test t o false y z = ap₂ (λ (t : Tree) (o : Solution). record { reply = answered (movesAt t o); path = written (wordsAt (d .direction) t o) p }) y z
-
-          some-case : Shows ts s → retraceBy (laterFaults ts s p (isBest (s .«best_solution»))) (at ts) s p ≡ shownOf g (outcomeOf d ts s) p
+          some-case : Shows ts s → showing ts s p (isBest (s .«best_solution»)) ≡ shownOf g (outcomeOf d ts s) p
           some-case z =
               let t : Tree = tree ts ((entry s (z .i)) .tree) in
-              let is-t : shownTree ts s ≡ t = ap (shownTreeBy ts s) (z .best) in
-              let is-o : shown s ≡ At (z .h) = ap (shownBy s) (z .best) ∙ z .holds in
-              ap (λ (y : BestSolution). retraceBy (laterFaults ts s p (isBest y)) (at ts) s p) (z .best)
-              ∙ by-test t (At (z .h)) (ltb (length p) (1 + 2 * movesAt (shownTree ts s) (shown s))) is-t is-o
-              ∙ ap₂ (λ (t : Tree) (o : Solution). retraceIf (ltb (length p) (1 + 2 * movesAt t o)) (movesAt (tree ts ((entry s (z .i)) .tree)) (At (z .h))) (wordsAt (d .direction) (tree ts ((entry s (z .i)) .tree)) (At (z .h))) p) is-t is-o
-              ∙ shown-is (d .direction) g t (z .h) p (paths t (st .sound .each _ (z .slot)) (z .h) (z .inside))
+              ap (λ (y : BestSolution). retraceAs true (isBest y) (d .direction) (shownTreeBy ts s y) (shownBy s y) p) (z .best)
+              ∙ ap (λ (o : Solution). retraceAs true true (d .direction) t o p) (z .holds)
+              ∙ sym (shown-is (d .direction) g t (z .h) p (paths t (st .sound .each _ (z .slot)) (z .h) (z .inside)))
               ∙ ap (λ (o : Outcome). shownOf g o p) (sym (shown-some ts s z))
 
       step-late : (ts : List Tree) (s : Search) → St ts s → s .exhausted ≡ true → step (at ts) s ≡ record { cache = at ts; search = s; reply = answered (statusOf (outcomeOf d ts s)); tickets = 0 }

@@ -2,7 +2,7 @@
 -- Assumes nothing.
 use mathlib.Core.Path.{_≡_, refl, sym, _∙_}
 use mathlib.Core.Logic.{_⊎_, inl, inr}
-use mathlib.Core.Bool.{Bool, true, false, not, _&&_, true≢false}
+use mathlib.Core.Bool.{Bool, true, false, not, _&&_}
 use mathlib.Core.List.{List, List·Memᴰ}
 use Prim.Native.Nat.{ℕ, zero, suc, _+_, _<_, _≤_}
 use native.Mathlib.Decide.{decLe, ℕ-discrete}
@@ -16,14 +16,8 @@ use Rattle.model.specs.Lists.{upFrom, numbers, those, joined}
 use Rattle.model.specs.Graph.{Graph, Domain, Direction, forward, backward, Accepted, Usable, from, to, vertexCount, edgeCount, leaving, between, choicesBy, choices}
 use Rattle.model.specs.Tree.{closedAt}
 use Rattle.model.specs.Sound.{closedEdges}
+use Rattle.model.proofs.Bools.{and-true, true-and}
 use Rattle.model.proofs.Lists.{up-length, numbers-mem, numbers-has, those-mem, those-has, those-length, those-le, those-split, Splits, joined-mem, joined-has}
-
-and-both : (a b : Bool) → (a && b) ≡ true → (a ≡ true) × (b ≡ true)
-and-both true b e = (refl, e)
-and-both false b e = absurd (true≢false (sym e))
-
-both-and : (a b : Bool) → a ≡ true → b ≡ true → (a && b) ≡ true
-both-and a b p q = rw (p, q)
 
 -- ---- the edges that leave a vertex
 
@@ -41,14 +35,14 @@ pub between-mem : (g : Graph) (v u l : ℕ) → List·Memᴰ l (between g v u) �
 unfolding between
 between-mem g v u l m =
     let r = those-mem (λ (x : ℕ). eqb (from g x) v && eqb (to g x) u) (numbers (edgeCount g)) l m in
-    let b = and-both (eqb (from g l) v) (eqb (to g l) u) (r .1) in
+    let b = and-true (eqb (from g l) v) (eqb (to g l) u) (r .1) in
     (numbers-mem (edgeCount g) l (r .0), eqb-true (from g l) v (b .0), eqb-true (to g l) u (b .1))
 
 pub between-has : (g : Graph) (v u l : ℕ) → Usable g l → from g l ≡ v → to g l ≡ u → List·Memᴰ l (between g v u)
 unfolding between
 between-has g v u l h e f =
     those-has (λ (x : ℕ). eqb (from g x) v && eqb (to g x) u) (numbers (edgeCount g)) l (numbers-has (edgeCount g) l h)
-    (both-and (eqb (from g l) v) (eqb (to g l) u) (eq-eqb (from g l) v e) (eq-eqb (to g l) u f))
+    (true-and (eqb (from g l) v) (eqb (to g l) u) (eq-eqb (from g l) v e) (eq-eqb (to g l) u f))
 
 -- ---- in the order in which they are queued
 
@@ -111,7 +105,7 @@ by-few backward g v =
     omega (
       arith,
       betweens g v (vertexCount g) 0,
-      those-le (entering g v 0) (λ (l : ℕ). eqb (from g l) v) (λ l e. and-both (eqb (from g l) v) (leb 0 (to g l)) e .0) (numbers (edgeCount g)),
+      those-le (entering g v 0) (λ (l : ℕ). eqb (from g l) v) (λ l e. and-true (eqb (from g l) v) (leb 0 (to g l)) e .0) (numbers (edgeCount g)),
     )
 
 pub choices-few : (d : Domain) (v : ℕ) → length (choices d v) ≤ length (leaving (d .graph) v)

@@ -1,28 +1,26 @@
 -- Demand 2: for every list of calls on a cache just opened, and every search opened in it, every status, total and path of its own steps
 -- and retraces is the reference's.
 -- Assumes nothing.
-use mathlib.Core.Path.{_≡_, refl, sym, ap, ap₂, _∙_, subst}
+use mathlib.Core.Path.{_≡_, sym, ap, _∙_, subst}
 use mathlib.Core.Bool.{Bool, true, false}
-use mathlib.Core.Option.{Option, none, some}
+use mathlib.Core.Option.{Option, none}
 use mathlib.Core.List.{List}
 use Prim.Native.Nat.{ℕ}
 use Rattle.model.specs.declared.Search.{Search}
 use Rattle.model.specs.Answers.{answered}
 use Rattle.model.specs.Graph.{Graph, Direction, Domain, Accepted, domain}
-use Rattle.model.specs.Tree.{Tree}
-use Rattle.model.specs.Sound.{SoundTrees}
 use Rattle.model.specs.Search.{plantAll, rootsOf, goalsOf, newSearch}
 use Rattle.model.specs.Valid.{valid}
 use Rattle.model.specs.Calls.{Cache, SoundCache, opened, withTrees, AfterStep, firstFault, initializeFaults, initializeBy, initialize, stepIf, step}
 use Rattle.model.specs.Demands.{Call, after, afterAll, Act, Event, events}
 use Rattle.model.specs.Reference as reference
-use Rattle.model.proofs.Keeps.{KeptCache, kept-sound, accepted-kept, initialize-keeps, step-keeps, after-keeps, after-all-keeps, MayInitialize, may-initialize}
+use Rattle.model.proofs.Keeps.{KeptCache, kept-sound, accepted-kept, initialize-keeps, step-keeps, after-keeps, after-all-keeps}
+use Rattle.model.proofs.Faults.{MayInitialize, may-initialize, no-fault, step-if}
 use Rattle.model.proofs.Valid.{own-valid}
 use Rattle.model.proofs.Opens.{slotsOf}
 use Rattle.model.proofs.Chain.{State, state-later, state-walk}
-use Rattle.model.proofs.Demand3.{no-fault, opened-state, opened-sound, opened-accepted}
+use Rattle.model.proofs.Demand3.{opened-state, opened-sound, opened-accepted}
 use Rattle.model.proofs.Refines.{initialize-is}
-use Rattle.model.proofs.RefinesStep.{step-if}
 use Rattle.model.proofs.RefinesEvents.{after-all-is, events-is}
 
 -- a sound cache and a search's own record
@@ -42,7 +40,7 @@ held-step c s h =
     subst (λ (r : AfterStep). Held (r .cache) (r .search)) (sym e) (go (s .exhausted) (subst (λ (r : AfterStep). KeptCache c (r .cache)) e (step-keeps c (h .acc) (h .ok) s)))
   where
     e : step c s ≡ stepIf (s .exhausted) c s
-    e = step-if c (h .acc) (h .ok .trees) s (held-valid c s h)
+    e = step-if c s (held-valid c s h)
 
     go : (b : Bool) → KeptCache c ((stepIf b c s) .cache) → Held ((stepIf b c s) .cache) ((stepIf b c s) .search)
     go true k = h

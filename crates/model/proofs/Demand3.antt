@@ -2,35 +2,35 @@
 -- of its own steps and retraces.
 -- Assumes nothing.
 use mathlib.Core.Path.{_≡_, refl, sym, ap, _∙_, subst}
-use mathlib.Core.Logic.{_⊎_, inl, inr, _≢_}
-use mathlib.Core.Bool.{Bool, true}
-use mathlib.Core.Option.{Option, none, some}
-use mathlib.Core.List.{List, [], _∷_, List·Memᴰ}
-use Prim.Native.Nat.{ℕ, suc, _+_, _*_, _<_, _≤_}
+use mathlib.Core.Logic.{inl, inr}
+use mathlib.Core.Bool.{true}
+use mathlib.Core.Option.{Option}
+use mathlib.Core.List.{List, [], _∷_}
+use Prim.Native.Nat.{ℕ, _+_, _*_, _<_, _≤_}
 use native.Mathlib.Omega.{arith}
-use lib.ListN.{length, getD}
+use lib.ListN.{length}
 use Rattle.model.specs.declared.CostBound.{CostBound}
-use Rattle.model.specs.declared.CostBound.the-variants.{Unbounded, Bound}
 use Rattle.model.specs.declared.BestSolution.{BestSolution}
-use Rattle.model.specs.declared.BestSolution.the-variants.{NoBest, Best}
+use Rattle.model.specs.declared.BestSolution.the-variants.{NoBest}
 use Rattle.model.specs.declared.Search.{Search}
 use Rattle.model.specs.declared.Solution.the-variants.{At}
-use Rattle.model.specs.Lists.{mem, allBelow}
-use Rattle.model.specs.Answers.{Reply, answered, refused}
-use Rattle.model.specs.Graph.{Graph, Domain, Direction, forward, backward, Accepted, Leads, total, totalCost, pathWords, SearchPath, vertexCount, edgeCount, domain, reversed, initialCost}
-use Rattle.model.specs.Tree.{Tree, node, evaluation}
+use Rattle.model.specs.Lists.{allBelow}
+use Rattle.model.specs.Answers.{answered}
+use Rattle.model.specs.Graph.{Graph, Domain, Direction, forward, backward, Accepted, totalCost, SearchPath, vertexCount, edgeCount, domain, initialCost}
+use Rattle.model.specs.Tree.{Tree, node}
 use Rattle.model.specs.Path.{path, words}
 use Rattle.model.specs.Sound.{tree, Sound, SoundTrees}
 use Rattle.model.specs.Search.{entry, boundOf, bound, rootsOf, goalsOf, newSearch}
-use Rattle.model.specs.Calls.{Cache, SoundCache, opened, firstFault, plantedFor, initializeFaults, initializeBy, initialize, step, retrace}
-use Rattle.model.specs.Demands.{Call, afterAll, Act, ownStep, ownRetrace, other, Event, stepped, retraced, events, Chain, ends, own-step, own-retrace, between, distinct, treesOf, waitLimit, Outcome, unreachable, reached, LeastPath, Right, Owed}
+use Rattle.model.specs.Calls.{Cache, SoundCache, opened, plantedFor, initializeBy, initialize, step, retrace}
+use Rattle.model.specs.Demands.{Call, afterAll, Act, ownStep, ownRetrace, other, Event, stepped, retraced, events, Chain, ends, own-step, own-retrace, between, distinct, treesOf, waitLimit, unreachable, Right, Owed}
 use Rattle.model.proofs.Least.{path-of}
 use Rattle.model.proofs.Turns.{Under}
-use Rattle.model.proofs.Keeps.{Keeps, MayInitialize, may-initialize, roots-below, plants-keep, KeptCache, kept-sound, after-all-keeps}
+use Rattle.model.proofs.Faults.{MayInitialize, may-initialize, roots-below, no-fault}
+use Rattle.model.proofs.Keeps.{plants-keep, KeptCache, kept-sound, after-all-keeps}
 use Rattle.model.proofs.Opens.{Allowed, allowedb, slotsOf, slots-length, opened-own, opened-goals, opened-ready, opened-rooted}
 use Rattle.model.proofs.Reversed.{back, accepted-domain, leads-back, total-back, back-leads, back-total, reverse-count}
 use Rattle.model.proofs.Words.{words-forward, words-backward}
-use Rattle.model.proofs.Chain.{lefts, lefts-most, State, Final, outcomeAt, outcomeOf, outcomeWords, Shows, shows-cases, shown-none, shown-some, Closing, Told, tells}
+use Rattle.model.proofs.Chain.{lefts, lefts-most, State, Final, outcomeAt, outcomeOf, outcomeWords, Shows, shows-cases, shown-none, shown-some, tells}
 
 -- the words of a node's path are those of the outcome that it shows
 paths : (dir : Direction) (g : Graph) (t : Tree) → Sound (domain dir g) t → (n : ℕ) → n < length (t .nodes)
@@ -124,18 +124,6 @@ edges-are forward g = refl
 edges-are backward g = reverse-count g
 
 -- ---- the search as opened
-
--- an accepted opening has no fault
-pub no-fault : (c : Cache) (ss gs : List ℕ) → (initialize c ss gs) .reply ≡ answered tt → firstFault (initializeFaults c ss gs) ≡ none
-unfolding initialize
-no-fault c ss gs e = go (firstFault (initializeFaults c ss gs)) refl e
-  where
-    clash : (n : ℕ) → _≡_ {A = Reply (Unit {0})} (refused n 0) (answered tt) → ⊥
-    clash n z = let y : _≡_ {A = ℕ} 0 1 = cc in omega arith
-
-    go : (o : Option ℕ) → firstFault (initializeFaults c ss gs) ≡ o → (initializeBy o c ss gs) .reply ≡ answered tt → firstFault (initializeFaults c ss gs) ≡ none
-    go none p q = p
-    go (some n) p q = absurd (clash n q)
 
 -- the state in which an accepted opening leaves the search
 module _ (c : Cache) (ss gs : List ℕ) (ok : SoundTrees (c .domain) (c .trees)) (m : MayInitialize c ss gs) where

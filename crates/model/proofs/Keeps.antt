@@ -1,35 +1,34 @@
 -- Any call, with any record, keeps the trees of a cache sound, and what was there stays.
 -- Assumes nothing.
 use mathlib.Core.Path.{_≡_, refl, sym, ap, _∙_, subst}
-use mathlib.Core.Logic.{_⊎_, inl, inr, _≢_}
-use mathlib.Core.Bool.{Bool, true, false, not, _&&_, true≢false}
+use mathlib.Core.Logic.{inl, inr, _≢_}
+use mathlib.Core.Bool.{Bool, true, false}
 use mathlib.Core.Option.{Option, none, some, Option·none-ne-some}
 use mathlib.Core.List.{List, [], _∷_, _++_, List·Memᴰ·head, List·Memᴰ·not-nil, List·Memᴰ·cases-cons}
 use Prim.Native.Nat.{ℕ, zero, suc, _+_, _-_, _<_, _≤_}
 use native.Mathlib.Nat.{lt-of-not-le}
 use native.Mathlib.Decide.{decLe, ℕ-discrete}
 use native.Mathlib.Omega.{arith}
-use borrow.Author.Tests.{eqb-true, eqb-false, ltb-true, ltb-false, leb-true, le-leb, eq-eqb, not-false}
-use lib.Dec.{eqb, ltb, leb}
-use lib.ListN.{length, getD, set, replicate, length-set, length-append, length-replicate, List·getD-append}
+use borrow.Author.Tests.{eqb-true, eqb-false, leb-true, le-leb, eq-eqb}
+use lib.Dec.{eqb}
+use lib.ListN.{length, set, replicate, length-set, length-append, length-replicate, List·getD-append}
 use lib.Seq.{set-out, getD-append-seam, getD-set-same, getD-set-other}
 use Rattle.model.specs.declared.CostBound.{CostBound}
 use Rattle.model.specs.declared.KnownLen.{KnownLen}
 use Rattle.model.specs.declared.Solution.{Solution}
 use Rattle.model.specs.declared.Solution.the-variants.{Unsolved, At}
-use Rattle.model.specs.declared.TreeMemory.{TreeMemory}
 use Rattle.model.specs.declared.Search.{Search}
-use Rattle.model.specs.Lists.{mem, allBelow}
-use Rattle.model.specs.Graph.{Domain, Direction, forward, backward, Accepted, absent, vertexCount, initialCost}
-use Rattle.model.specs.Tree.{Tree, node, closedAt, rootNode, newTree}
+use Rattle.model.specs.Lists.{mem}
+use Rattle.model.specs.Graph.{Domain, Accepted, absent, vertexCount, initialCost}
+use Rattle.model.specs.Tree.{Tree, closedAt, newTree}
 use Rattle.model.specs.Sound.{tree, noTree, Sound, SoundTrees}
-use Rattle.model.specs.Search.{entry, goals, bound, lookup, turn, turnBy, Walk, round, rounds, walk, withExhausted, seek, Planted, entryOf, plant, plantAll, rootsOf}
-use Rattle.model.specs.Valid.{valid}
-use Rattle.model.specs.Calls.{Cache, SoundCache, soundCacheb, firstFault, orElse, plantedFor, initializeBy, initializeFaults, initialize, stepIf, stepBy, stepFaults, step}
+use Rattle.model.specs.Search.{entry, goals, bound, lookup, turn, turnBy, Walk, round, rounds, walk, withExhausted, seek, plant, plantAll, rootsOf}
+use Rattle.model.specs.Calls.{Cache, SoundCache, soundCacheb, firstFault, initializeBy, initializeFaults, initialize, stepIf, stepBy, stepFaults, step}
 use Rattle.model.specs.Demands.{Call, initializing, stepping, retracing, after, afterAll}
-use Rattle.model.proofs.Bools.{and-true, true-and, all-below}
+use Rattle.model.proofs.Bools.{and-true, true-and}
+use Rattle.model.proofs.Faults.{may-initialize, roots-below}
 use Rattle.model.proofs.Tests.{trees-at, at-trees}
-use Rattle.model.proofs.Lists.{mem-nil, mem-head, mem-tail, mem-cases}
+use Rattle.model.proofs.Lists.{mem-head, mem-tail}
 use Rattle.model.proofs.Later.{Later, later-refl, later-trans}
 use Rattle.model.proofs.Later as growing
 
@@ -111,6 +110,11 @@ module _ (d : Domain) (acc : Accepted (d .graph)) where
   pub walk-keeps : (ts : List Tree) (s : Search) → SoundTrees d ts → Keeps d ts ((walk d ts s) .trees)
   unfolding walk
   walk-keeps ts s ok = rounds-keeps (s .«tree_count») 0 (record { trees = ts; search = withExhausted s true; tickets = 0 }) ok
+
+-- a round changes no count
+pub round-count : (d : Domain) (i : ℕ) (w : Walk) → (round d i w) .search .«tree_count» ≡ w .search .«tree_count»
+unfolding round
+round-count d i w = refl
 
 pub rounds-length : (d : Domain) (k i : ℕ) (w : Walk) → length ((rounds d k i w) .trees) ≡ length (w .trees)
 unfolding rounds round
@@ -255,31 +259,6 @@ plants-keep d (v ∷ vs) ts ok h =
     keeps-trans d ts _ _ k (plants-keep d vs _ (k .0) (λ x e. h x (mem-tail x v vs e)))
 
 -- ---- any call
-
--- no fault: none of them is given
-pub or-none : (b : Bool) (n : ℕ) (o : Option ℕ) → orElse b n o ≡ none → (b ≡ false) × (o ≡ none)
-or-none true n o e = absurd (Option·none-ne-some n (sym e))
-or-none false n o e = (refl, e)
-
-pub record MayInitialize (c : Cache) (ss gs : List ℕ) : Type 0 where
-  pub few-starts : length ss ≤ 64
-  pub few-goals : length gs ≤ 64
-  pub starts-below : allBelow (vertexCount (c .domain .graph)) ss ≡ true
-  pub goals-below : allBelow (vertexCount (c .domain .graph)) gs ≡ true
-  pub room : length (plantedFor c ss gs .trees) - length (c .trees) ≤ c .slots - length (c .trees)
-
-pub may-initialize : (c : Cache) (ss gs : List ℕ) → firstFault (initializeFaults c ss gs) ≡ none → MayInitialize c ss gs
-may-initialize c ss gs e =
-    let r = or-none _ _ _ e in
-    let q = or-none _ _ _ (r .1) in
-    let p = or-none _ _ _ (q .1) in
-    let lists = and-true (leb (length ss) 64) (leb (length gs) 64) (not-false _ (r .0)) in
-    let below = and-true (allBelow (vertexCount (c .domain .graph)) ss) (allBelow (vertexCount (c .domain .graph)) gs) (not-false _ (q .0)) in
-    record { few-starts = leb-true _ _ (lists .0); few-goals = leb-true _ _ (lists .1); starts-below = below .0; goals-below = below .1; room = ltb-false _ _ (p .0) }
-
-pub roots-below : (dir : Direction) (c : Cache) (ss gs : List ℕ) → MayInitialize c ss gs → (v : ℕ) → mem v (rootsOf dir ss gs) ≡ true → v < vertexCount (c .domain .graph)
-roots-below forward c ss gs m v e = all-below _ ss (m .starts-below) v e
-roots-below backward c ss gs m v e = all-below _ gs (m .goals-below) v e
 
 pub record KeptCache (c c′ : Cache) : Type 0 where
   pub domain : c′ .domain ≡ c .domain

@@ -5,21 +5,19 @@ use mathlib.Core.Path.{_≡_, refl, sym, ap, _∙_, subst}
 use mathlib.Core.Logic.{_⊎_, inl, inr, _≢_}
 use mathlib.Core.Bool.{Bool, true, false, not, true≢false}
 use mathlib.Core.List.{List, [], _∷_, List·Memᴰ, List·Memᴰ·head, List·Memᴰ·tail, List·Memᴰ·cases-cons}
-use Prim.Native.Nat.{ℕ, zero, suc, _+_, _*_, _<_, _≤_}
-use native.Mathlib.Decide.{ℕ-discrete}
+use Prim.Native.Nat.{ℕ, zero, suc, _+_, _<_, _≤_}
 use native.Mathlib.Omega.{arith}
 use borrow.Author.Tests.{eqb-false}
 use lib.Dec.{eqb, eqb·suc-zero}
 use lib.ListN.{length, set, length-append}
 use Rattle.model.specs.declared.CostBound.{CostBound}
 use Rattle.model.specs.Lists.{mem}
-use Rattle.model.specs.Graph.{Domain, Direction, forward, backward, Accepted, absent, cost, edgeCount, initialBy, initialCost}
+use Rattle.model.specs.Graph.{Domain, Direction, Accepted, cost}
 use Rattle.model.specs.Tree.{Tree, Node, node, closedAt, evaluation, least, leastOf, popped, expanded, Going, on, found, over, Growth, above, goingOn, taken, ticketOf, ticket, grow}
 use Rattle.model.specs.Sound.{Sound, Hangs}
 use Rattle.model.specs.Search.{closedCount, countIf}
 use Rattle.model.specs.Path.{snocIf, pathIn, path, wordsIf, wordsIn, words}
-use Rattle.model.proofs.Lists.{before-cost, Least, least-is, without-length, ascends-length}
-use Rattle.model.proofs.Choices.{closed-few}
+use Rattle.model.proofs.Lists.{before-cost, Least, least-is, without-length}
 use Rattle.model.proofs.Grow.{popped-sound, expanded-sound, expanded-ticket, expanded-is, old, still, closed-cases, closed-le, now, in-closed, cl′, new, closing}
 
 pub record Later (t t′ : Tree) : Type 0 where

@@ -11,10 +11,11 @@ use native.Mathlib.Omega.{arith}
 use borrow.Author.Tests.{eqb-true, eqb-false}
 use lib.Dec.{eqb}
 use lib.ListN.{length}
-use Rattle.model.specs.Graph.{Graph, Domain, Accepted, Usable, Leads, total, from, to, cost, vertexCount, initialCost}
+use Rattle.model.specs.Graph.{Domain, Accepted, Usable, Leads, total, from, to, cost, vertexCount, initialCost}
 use Rattle.model.specs.Tree.{Tree, node, closedAt}
 use Rattle.model.specs.Sound.{Sound, Hangs, Reached, shut, waits}
 use Rattle.model.specs.Path.{snocIf, pathIn, path}
+use Rattle.model.proofs.Paths.{leads-snoc, total-snoc}
 
 -- ---- the root, and where the nodes are
 
@@ -94,14 +95,6 @@ module _ (d : Domain) (t : Tree) (ok : Sound d t) where
   closed-least v i ls e r = at-most v i (initialCost d (t .start) + total (d .graph) ls) e (front-start v ls r)
 
 -- ---- the path of a node
-
-pub leads-snoc : (g : Graph) (a b l : ℕ) (ls : List ℕ) → Leads g a ls b → Usable g l → from g l ≡ b → Leads g a (ls ++ (l ∷ [])) (to g l)
-leads-snoc g a b l [] r h e = (h, e ∙ sym r, refl)
-leads-snoc g a b l (k ∷ ks) r h e = (r .0, r .1, leads-snoc g (to g k) b l ks (r .2) h e)
-
-pub total-snoc : (g : Graph) (l : ℕ) (ls : List ℕ) → total g (ls ++ (l ∷ [])) ≡ total g ls + cost g l
-total-snoc g l [] = omega arith
-total-snoc g l (k ∷ ks) = omega (arith, total-snoc g l ks)
 
 -- the edges ls lead from the start to the vertex of node n, at its cost
 abbrev pub PathTo : Domain → Tree → List ℕ → ℕ → Type 0

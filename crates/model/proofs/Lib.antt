@@ -1,14 +1,16 @@
 pub mod Bools
-pub mod Tests
-pub mod Reversed
-pub mod Words
 pub mod Lists
+pub mod Paths
+pub mod Reversed
 pub mod Choices
+pub mod Tests
+pub mod Words
 pub mod Least
 pub mod Grow
 pub mod Later
 pub mod Room
 pub mod Turns
+pub mod Faults
 pub mod Keeps
 pub mod Rounds
 pub mod Valid
@@ -16,7 +18,6 @@ pub mod Tickets
 pub mod Opens
 pub mod Chain
 pub mod Demand3
-pub mod Examples
 pub mod Retraced
 pub mod Refines
 pub mod RefinesGrow
@@ -25,3 +26,4 @@ pub mod RefinesRound
 pub mod RefinesStep
 pub mod RefinesEvents
 pub mod Demand2
+pub mod Examples

@@ -7,9 +7,9 @@ use mathlib.Core.Option.{Option, none, some}
 use mathlib.Core.List.{List, [], _∷_, _++_, List·Memᴰ, List·Memᴰ·head, List·Memᴰ·tail, List·Memᴰ·not-nil, List·Memᴰ·cases-cons, map, append-nil, append-assoc}
 use Prim.Native.Nat.{ℕ, zero, suc, _+_, _-_, _<_, _≤_}
 use native.Mathlib.Omega.{arith}
-use borrow.Author.Tests.{eqb-true, eqb-false, not-true, not-false}
+use borrow.Author.Tests.{eqb-true, eqb-false, not-true}
 use lib.Dec.{eqb}
-use lib.ListN.{length, getD, take, replicate, length-append, length-replicate, length-map, List·getD-append}
+use lib.ListN.{length, getD, replicate, length-append, length-replicate, length-map, List·getD-append}
 use lib.Seq.{take-append-seam}
 use Rattle.model.specs.declared.CostBound.the-variants.{Unbounded}
 use Rattle.model.specs.declared.TreeMemory.{TreeMemory}
@@ -17,7 +17,7 @@ use Rattle.model.specs.declared.Search.{Search}
 use Rattle.model.specs.Lists.{keep, mem, allBelow}
 use Rattle.model.specs.Graph.{Domain, absent, vertexCount, initialCost}
 use Rattle.model.specs.Tree.{Tree, newTree}
-use Rattle.model.specs.Sound.{tree, SoundTrees}
+use Rattle.model.specs.Sound.{tree}
 use Rattle.model.specs.Search.{blank, entry, goals, seek, Planted, entryOf, plant, plantAll, newSearch}
 use Rattle.model.specs.Demands.{distinct}
 use Rattle.model.proofs.Lists.{mem-nil, mem-head, mem-tail, mem-cases}

@@ -13,7 +13,8 @@ use Rattle.model.specs.Reference.{Memory, Answered, readMemory, replyOf,
 use Rattle.model.specs.Reference as reference
 use Rattle.model.proofs.Keeps.{KeptCache, kept-sound, accepted-kept, step-keeps, after-keeps}
 use Rattle.model.proofs.RefinesRead.{valid-readable, read-later}
-use Rattle.model.proofs.RefinesStep.{read-flag, StepIs, step-if, if-is, retrace-is, after-is}
+use Rattle.model.proofs.Faults.{step-if}
+use Rattle.model.proofs.RefinesStep.{read-flag, StepIs, if-is, retrace-is, after-is}
 
 pub after-all-is : (xs : List Call) (c : Cache) → Accepted (c .domain .graph) → SoundCache c → reference.afterAll c xs ≡ afterAll c xs
 unfolding reference.afterAll afterAll
@@ -57,7 +58,7 @@ module _ (P : Cache → Search → Type 0) (fine : (c : Cache) (s : Search) → 
   events-is (ownStep ∷ acts) c s acc ok p =
       let k : KeptCache c ((step c s) .cache) = step-keeps c acc ok s in
       let ih = events-is acts ((step c s) .cache) ((step c s) .search) (accepted-kept c ((step c s) .cache) k acc) (kept-sound c ((step c s) .cache) k) (steps c s p) in
-      let e : step c s ≡ stepIf (s .exhausted) c s = step-if c acc (ok .trees) s (fine c s p) in
+      let e : step c s ≡ stepIf (s .exhausted) c s = step-if c s (fine c s p) in
       own-step acts c s (s .exhausted) (reference.step (c .domain) (c .trees) (memoryOf c s)) (if-is c acc (ok .trees) s (fine c s p) (s .exhausted) refl)
       (subst (λ (z : AfterStep). Same acts (z .cache) (z .search)) e ih)
       ∙ ap (λ (z : AfterStep). stepped (z .reply) ∷ events (z .cache) (z .search) acts) (sym e)

@@ -26,7 +26,7 @@ use Rattle.model.specs.Search as search
 use Rattle.model.specs.Reference.{Path, TreeEntry, noEntry, Memory, get, put, orNoTree, retraceNode, costBound, TurnEnd, turnEnd, sameLen, lookUnless, exhaustedUnless, priorCheaper, bestWhen, bestAfter, bestUnless, bestTurn, solutionUnless, solutionTurn, Stepping, turnOf, turnsOf, readKnown, readSolution, readEntry, readBest, readMemory}
 use Rattle.model.proofs.Later.{Later}
 use Rattle.model.proofs.Turns.{hold-from}
-use Rattle.model.proofs.Keeps.{AllLater, turn-keeps, turn-set, round-keeps}
+use Rattle.model.proofs.Keeps.{AllLater, turn-keeps, turn-set, round-keeps, round-count}
 use Rattle.model.proofs.Retraced.{retrace-cost}
 use Rattle.model.proofs.Refines.{map-set, get-is, put-is}
 use Rattle.model.proofs.RefinesGrow.{readBound, readTurn, turn-is}
@@ -267,14 +267,10 @@ module _ (d : Domain) (acc : Accepted (d .graph)) where
   unfolding round
   round-reads i w ok r h = round-readable d acc (w .trees) (w .search) i ok r h
 
-  round-count : (i : ℕ) (w : Walk) → (round d i w) .search .«tree_count» ≡ w .search .«tree_count»
-  unfolding round
-  round-count i w = refl
-
   pub rounds-is : (k i : ℕ) (w : Walk) → SoundTrees d (w .trees) → Readable d (w .trees) (w .search) → i + k ≤ w .search .«tree_count»
       → turnsOf d k i (readStepping d (w .trees) (w .search)) ≡ readStepping d ((rounds d k i w) .trees) ((rounds d k i w) .search)
   unfolding turnsOf rounds
   rounds-is zero i w ok r h = refl
   rounds-is (suc k) i w ok r h =
       let g : i < w .search .«tree_count» = omega arith in
-      ap (turnsOf d k (suc i)) (round-is i w ok r g) ∙ rounds-is k (suc i) (round d i w) (round-keeps d acc i w ok .0) (round-reads i w ok r g) (omega (arith, round-count i w))
+      ap (turnsOf d k (suc i)) (round-is i w ok r g) ∙ rounds-is k (suc i) (round d i w) (round-keeps d acc i w ok .0) (round-reads i w ok r g) (omega (arith, round-count d i w))

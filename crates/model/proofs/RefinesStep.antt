@@ -21,10 +21,11 @@ use Rattle.model.specs.Path.{movesOf, words}
 use Rattle.model.specs.Sound.{tree, Sound, SoundTrees}
 use Rattle.model.specs.Search.{entry, goals, withExhausted, Walk, rounds, walk}
 use Rattle.model.specs.Valid.{valid}
-use Rattle.model.specs.Calls.{Cache, withTrees, orElse, firstFault, initializeFaults, initializeBy, shownBy, shown, shownTreeBy, shownTree, statusAt, finalStatus, stepIf, stepBy, step, AfterStep, AfterRetrace, isBest, solvedAlready, movesAt, wordsAt, retraceFaults, written, retraceBy, retrace}
+use Rattle.model.specs.Calls.{Cache, withTrees, orElse, firstFault, initializeFaults, initializeBy, shownBy, shown, shownTreeBy, shownTree, statusAt, finalStatus, stepIf, stepBy, step, AfterStep, isBest, solvedAlready, retrace}
 use Rattle.model.specs.Demands.{Call, initializing, stepping, retracing, after}
 use Rattle.model.specs.Reference.{Path, BestCost, Memory, TreeEntry, retraceNode, turnsOf, Stepping, Answered, SearchStatus, Incomplete, Solved, Impossible, inChart, solvedBy, finished, stepWhen, readEntry, readSolution, readBest, readMemory, treesWhen, replyOf, pathWords, shownIf, shownOf, pathStatus}
 use Rattle.model.specs.Reference as reference
+use Rattle.model.proofs.Faults.{step-if, shownWith, retraceAs, retrace-as, retrace-shown}
 use Rattle.model.proofs.Valid.{valid-at}
 use Rattle.model.proofs.Retraced.{retrace-words, retrace-moves, retrace-total}
 use Rattle.model.proofs.Refines.{initialize-is}
@@ -150,49 +151,16 @@ pub record StepIs (d : Domain) (r : Answered) (z : AfterStep) : Type 0 where
   pub memory : r .memory ≡ readMemory d (z .cache .trees) (z .search)
   pub reply : replyOf (r .status) ≡ z .reply
 
--- a retrace, by its tests, and by the tree and the solution shown
-abbrev shownAs : Option ℕ → Direction → Tree → Solution → List ℕ → AfterRetrace
-shownAs (some n) dir t o p = record { reply = refused n 0; path = p }
-shownAs none dir t o p = record { reply = answered (movesAt t o); path = written (wordsAt dir t o) p }
-
-abbrev retraceAs : Bool → Bool → Direction → Tree → Solution → List ℕ → AfterRetrace
-retraceAs v x dir t o p = shownAs (orElse (not v) 8 (orElse (not x) 9 (orElse (ltb (length p) (1 + 2 * movesAt t o)) 10 none))) dir t o p
-
-retrace-as : (c : Cache) (s : Search) (p : List ℕ)
-    → retrace c s p ≡ retraceAs (valid (c .domain) (c .trees) s) (solvedAlready s) (c .domain .direction) (shownTree (c .trees) s) (shown s) p
-unfolding retrace
-retrace-as c s p = go (firstFault (retraceFaults c s p))
-  where
-    go : (o : Option ℕ) → retraceBy o c s p ≡ shownAs o (c .domain .direction) (shownTree (c .trees) s) (shown s) p
-    go none = refl
-    go (some n) = refl
-
--- the same, by the moves and the words shown
-abbrev shownWith : Bool → ℕ → List ℕ → List ℕ → AfterRetrace
-shownWith true m ws p = record { reply = refused 10 0; path = p }
-shownWith false m ws p = record { reply = answered m; path = written ws p }
-
 path-shown : (dir : Direction) (t : Tree) (h : ℕ) (x : Path) (p : List ℕ) → length (x .sequence) ≡ movesOf (t .nodes) h → pathWords x ≡ words dir (t .nodes) h
     → shownOf (Solved x) p ≡ retraceAs true true dir t (At h) p
-path-shown dir t h x p e f =
-    from (ltb (length p) (1 + 2 * length (x .sequence)))
-    ∙ ap₂ (λ (m : ℕ) (ws : List ℕ). shownWith (ltb (length p) (1 + 2 * m)) m ws p) e f
-    ∙ into (ltb (length p) (1 + 2 * movesOf (t .nodes) h))
+path-shown dir t h x p e f = go (ltb (length p) (1 + 2 * length (x .sequence))) ∙ retrace-shown dir t h p (length (x .sequence)) (pathWords x) e f
   where
-    from : (q : Bool) → shownIf q x p ≡ shownWith q (length (x .sequence)) (pathWords x) p
-    from true = refl
-    from false = refl
-
-    into : (q : Bool) → shownWith q (movesOf (t .nodes) h) (words dir (t .nodes) h) p ≡ shownAs (orElse q 10 none) dir t (At h) p
-    into true = refl
-    into false = refl
+    go : (q : Bool) → shownIf q x p ≡ shownWith q (length (x .sequence)) (pathWords x) p
+    go true = refl
+    go false = refl
 
 module _ (c : Cache) (acc : Accepted (c .domain .graph)) (ok : SoundTrees (c .domain) (c .trees)) where
   module _ (s : Search) (fine : valid (c .domain) (c .trees) s ≡ true) where
-    pub step-if : step c s ≡ stepIf (s .exhausted) c s
-    unfolding step
-    step-if = ap (λ (v : Bool). stepBy (orElse (not v) 8 none) c s) fine
-
     pub if-is : (x : Bool) → s .exhausted ≡ x → StepIs (c .domain) (reference.step (c .domain) (c .trees) (readMemory (c .domain) (c .trees) s)) (stepIf x c s)
     if-is true e =
         let r = finished-is (c .domain) acc (c .trees) s ok fine e in
@@ -202,7 +170,7 @@ module _ (c : Cache) (acc : Accepted (c .domain .graph)) (ok : SoundTrees (c .do
         record { trees = ap (λ (r : Answered). r .trees) r; memory = ap (λ (r : Answered). r .memory) r; reply = ap (λ (r : Answered). replyOf (r .status)) r }
 
     pub step-is : StepIs (c .domain) (reference.step (c .domain) (c .trees) (readMemory (c .domain) (c .trees) s)) (step c s)
-    step-is = subst (StepIs (c .domain) (reference.step (c .domain) (c .trees) (readMemory (c .domain) (c .trees) s))) (sym step-if) (if-is (s .exhausted) refl)
+    step-is = subst (StepIs (c .domain) (reference.step (c .domain) (c .trees) (readMemory (c .domain) (c .trees) s))) (sym (step-if c s fine)) (if-is (s .exhausted) refl)
 
     -- ---- a path
 

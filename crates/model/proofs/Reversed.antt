@@ -5,28 +5,8 @@ use mathlib.Core.List.{List, [], _∷_, _++_}
 use Prim.Native.Nat.{ℕ, _+_}
 use native.Mathlib.Omega.{arith}
 use lib.ListN.{length, getD, length-map, length-append, List·getD-map}
-use Rattle.model.specs.Graph.{
-  Graph,
-  Edge,
-  noEdge,
-  absent,
-  vertexCount,
-  edgeCount,
-  from,
-  to,
-  cost,
-  Usable,
-  Accepted,
-  Leads,
-  total,
-  Direction,
-  forward,
-  backward,
-  swap,
-  reversed,
-  domain,
-  initialCost,
-}
+use Rattle.model.specs.Graph.{Graph, Edge, noEdge, absent, vertexCount, edgeCount, from, to, cost, Accepted, Leads, total, Direction, forward, backward, swap, reversed, domain, initialCost}
+use Rattle.model.proofs.Paths.{leads-snoc, total-snoc}
 
 -- ---- a list read from its end
 
@@ -48,16 +28,6 @@ pub back-length : (ls : List ℕ) → length (back ls) ≡ length ls
 unfolding back
 back-length [] = refl
 back-length (l ∷ ls) = omega (arith, length-append (back ls) (l ∷ []), back-length ls)
-
--- ---- one more edge at the end of a path
-
-pub leads-snoc : (g : Graph) (a b l : ℕ) (ls : List ℕ) → Leads g a ls b → Usable g l → from g l ≡ b → Leads g a (ls ++ (l ∷ [])) (to g l)
-leads-snoc g a b l [] r h e = (h, e ∙ sym r, refl)
-leads-snoc g a b l (k ∷ ks) r h e = (r .0, r .1, leads-snoc g (to g k) b l ks (r .2) h e)
-
-pub total-snoc : (g : Graph) (l : ℕ) (ls : List ℕ) → total g (ls ++ (l ∷ [])) ≡ total g ls + cost g l
-total-snoc g l [] = omega arith
-total-snoc g l (k ∷ ks) = omega (arith, total-snoc g l ks)
 
 -- ---- the reversed graph, edge by edge
 

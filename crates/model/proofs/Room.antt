@@ -2,20 +2,21 @@
 -- at most 1,023,998,976".
 -- Assumes nothing.
 use mathlib.Core.Path.{_≡_, refl, sym, ap, _∙_, subst}
-use mathlib.Core.Logic.{_⊎_, inl, inr, _≢_}
+use mathlib.Core.Logic.{inl, inr, _≢_}
 use mathlib.Core.Bool.{Bool, true, false}
 use mathlib.Core.List.{List, [], _∷_, _++_, List·Memᴰ, List·Memᴰ·head, List·Memᴰ·tail, List·Memᴰ·not-nil, List·Memᴰ·cases-cons, List·Memᴰ·append-cases}
 use Prim.Native.Nat.{ℕ, zero, suc, _+_, _-_, _*_, _<_, _≤_}
-use native.Mathlib.Decide.{decLe, ℕ-discrete}
+use native.Mathlib.Decide.{ℕ-discrete}
 use native.Mathlib.Omega.{arith}
-use borrow.Author.Tests.{eqb-true, eqb-false}
+use borrow.Author.Tests.{eqb-false}
 use lib.Dec.{eqb}
-use lib.ListN.{length, getD, length-append}
+use lib.ListN.{length, length-append}
 use Rattle.model.specs.Lists.{Ascends}
-use Rattle.model.specs.Graph.{Domain, Direction, forward, backward, Graph, Accepted, Leads, total, to, absent, edgeCount, vertexCount, Usable, initialBy, initialCost}
+use Rattle.model.specs.Graph.{Domain, Direction, forward, backward, Accepted, absent, edgeCount, vertexCount, initialBy, initialCost}
 use Rattle.model.specs.Tree.{Tree, Node, node, closedAt, without}
 use Rattle.model.specs.Path.{snocIf, pathIn, path, movesOf}
 use Rattle.model.specs.Sound.{Sound, Hangs}
+use Rattle.model.proofs.Paths.{total-le}
 use Rattle.model.proofs.Lists.{ascends-length, append-ascends, without-mem, without-ascends, without-not, without-longer}
 use Rattle.model.proofs.Choices.{closed-few}
 use Rattle.model.proofs.Least.{path-of}
@@ -150,11 +151,6 @@ module _ (d : Domain) (t : Tree) (ok : Sound d t) where
       omega (arith, r .long, ok .sized, named (t .closed) (ancestorsIn ns n n) 0 (r .ascends) (λ i m. word-in (t .closed) _ i (r .closes i m)))
 
 -- ---- totals
-
--- the edges of a path cost at most 999,999 each
-total-le : (g : Graph) → Accepted g → (ls : List ℕ) (a b : ℕ) → Leads g a ls b → total g ls ≤ 999999 * length ls
-total-le g acc [] a b r = omega arith
-total-le g acc (l ∷ ls) a b r = omega (arith, acc .costs l (r .0), total-le g acc ls (to g l) b (r .2))
 
 module _ (d : Domain) (acc : Accepted (d .graph)) (t : Tree) (ok : Sound d t) where
   pub cost-moves : (n : ℕ) → n < length (t .nodes) → (node (t .nodes) n) .cost ≤ 999999 * (1 + movesOf (t .nodes) n)

@@ -5,12 +5,11 @@ use mathlib.Core.Logic.{_⊎_, inl, inr, _≢_}
 use mathlib.Core.Bool.{Bool, true, false, true≢false}
 use mathlib.Core.List.{List}
 use Prim.Native.Nat.{ℕ, zero, suc, _+_, _<_, _≤_}
-use native.Mathlib.Nat.{le-trans, le-of-lt, lt-of-not-le, add-zero, add-suc}
+use native.Mathlib.Nat.{le-of-lt}
 use native.Mathlib.Omega.{arith}
-use native.Mathlib.Decide.{decLe, ℕ-discrete}
+use native.Mathlib.Decide.{ℕ-discrete}
 use borrow.Author.Tests.{ltb-true, ltb-false}
-use lib.Dec.{eqb, ltb}
-use lib.ListN.{length, getD, set, length-set}
+use lib.ListN.{length, set, length-set}
 use lib.Seq.{getD-set-same, getD-set-other}
 use Rattle.model.specs.declared.CostBound.{CostBound}
 use Rattle.model.specs.declared.CostBound.the-variants.{Unbounded, Bound}
@@ -25,8 +24,7 @@ use Rattle.model.specs.Graph.{Domain, Accepted, Leads, total, vertexCoun
 use Rattle.model.specs.Tree.{Tree, Node, node, evaluation}
 use Rattle.model.specs.Sound.{tree, noTree, SoundTrees}
 use Rattle.model.specs.Search.{blank, entry, goals, withExhausted, dearer, cheaper, bestIf, bestAfter, hold, holdIf, exhaustedUnless, recordedEntry, recorded, boundOf, bound, Turn, turn, Walk, round, rounds, walk}
-use Rattle.model.proofs.Later.{Later}
-use Rattle.model.proofs.Turns.{Upto, upto-le, unsolved-at, hold-held, hold-from, Holds, holds-later, Known, known-later, Under, under-le, Turned, turned}
+use Rattle.model.proofs.Turns.{Upto, unsolved-at, hold-held, hold-from, Holds, holds-later, Known, known-later, Under, under-le, Turned, turned}
 use Rattle.model.proofs.Keeps.{AllLater, all-refl, all-trans, Keeps, set-keeps}
 
 -- ---- what a search's own record keeps

@@ -15,7 +15,8 @@ use Rattle.model.specs.Lists.{mem, upto, allIn}
 use Rattle.model.specs.Graph.{Domain, from, to, absent, edgeCount, initialCost}
 use Rattle.model.specs.Tree.{Tree, Node, node, closedAt, evaluation, weight}
 use Rattle.model.specs.Sound.{noTree, tree, Hangs, Reached, shut, waits, Sound, SoundTrees, closedb, shutb, reachedb, hangTests, hangsb, soundTests, soundb, starts, distinctb, soundTreesb}
-use Rattle.model.proofs.Bools.{and-true, true-and, or-cases, true-or-left, true-or-right, all-true, true-given, upto-at, at-upto, all-in-at, at-all-in, any-in-at, at-any-in, ascends-at, at-ascends, mem-true, true-mem}
+use Rattle.model.proofs.Lists.{mem-listed, listed-mem}
+use Rattle.model.proofs.Bools.{and-true, true-and, or-cases, true-or-left, true-or-right, all-true, true-given, upto-at, at-upto, all-in-at, at-all-in, any-in-at, at-any-in, ascends-at, at-ascends}
 
 -- a test that two numbers differ
 differs-at : (a b : ℕ) → not (eqb a b) ≡ true → a ≢ b
@@ -80,11 +81,11 @@ at-hangs d ns cl i h =
 -- ---- a tree
 
 begun-at : (x : ℕ) (q : List ℕ) → (not (eqb x 0) || mem 0 q) ≡ true → (x ≢ 0) ⊎ List·Memᴰ 0 q
-begun-at x q e = elim (or-cases (not (eqb x 0)) (mem 0 q) e) [ inl z ↦ inl (differs-at x 0 z) | inr z ↦ inr (mem-true 0 q z) ]
+begun-at x q e = elim (or-cases (not (eqb x 0)) (mem 0 q) e) [ inl z ↦ inl (differs-at x 0 z) | inr z ↦ inr (mem-listed 0 q z) ]
 
 at-begun : (x : ℕ) (q : List ℕ) → (x ≢ 0) ⊎ List·Memᴰ 0 q → (not (eqb x 0) || mem 0 q) ≡ true
 at-begun x q (inl z) = true-or-left (not (eqb x 0)) (mem 0 q) (at-differs x 0 z)
-at-begun x q (inr z) = true-or-right (not (eqb x 0)) (mem 0 q) (true-mem 0 q z)
+at-begun x q (inr z) = true-or-right (not (eqb x 0)) (mem 0 q) (listed-mem 0 q z)
 
 module _ (d : Domain) (t : Tree) where
   pub sound-at : soundb d t ≡ true → Sound d t

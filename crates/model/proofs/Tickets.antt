@@ -1,7 +1,7 @@
 -- "Tickets taken equal the growth of nodes used less queue length, summed over trees", for every step with any record.
 -- Assumes nothing.
-use mathlib.Core.Path.{_≡_, refl, sym, ap, _∙_, subst}
-use mathlib.Core.Bool.{Bool, true, false, not}
+use mathlib.Core.Path.{_≡_, refl, ap}
+use mathlib.Core.Bool.{Bool, true, false}
 use mathlib.Core.Option.{Option, none, some}
 use mathlib.Core.List.{List, [], _∷_}
 use Prim.Native.Nat.{ℕ, zero, suc, _+_, _<_, _≤_}
@@ -22,9 +22,10 @@ use Rattle.model.specs.Tree.{Tree}
 use Rattle.model.specs.Sound.{tree, Sound, SoundTrees}
 use Rattle.model.specs.Search.{blank, entry, goals, withExhausted, Turn, lookup, turn, turnBy, recordedEntry, recorded, bound, Walk, round, rounds, walk}
 use Rattle.model.specs.Valid.{valid}
-use Rattle.model.specs.Calls.{Cache, SoundCache, AfterStep, orElse, firstFault, stepFaults, stepIf, stepBy, step}
+use Rattle.model.specs.Calls.{Cache, SoundCache, firstFault, stepFaults, stepIf, stepBy, step}
 use Rattle.model.proofs.Later as growing
-use Rattle.model.proofs.Keeps.{round-keeps, or-none}
+use Rattle.model.proofs.Faults.{or-none}
+use Rattle.model.proofs.Keeps.{round-keeps, round-count}
 use Rattle.model.proofs.Valid.{valid-at}
 
 -- the sum of f over the trees
@@ -92,10 +93,6 @@ module _ (d : Domain) (acc : Accepted (d .graph)) where
       let u : Turn = turn d (goals (w .search)) (bound d (w .trees) (w .search)) (tree (w .trees) k) ((entry (w .search) i) .«last_known_closed_len») in
       omega (arith, slot-kept d (bound d (w .trees) (w .search)) (w .search) i u j, f j h, length-set (w .trees) k (u .tree))
 
-  round-count : (i : ℕ) (w : Walk) → (round d i w) .search .«tree_count» ≡ w .search .«tree_count»
-  unfolding round
-  round-count i w = refl
-
   rounds-tickets : (n i : ℕ) (w : Walk) → SoundTrees d (w .trees) → Slots w → n + i ≤ w .search .«tree_count»
       → used ((rounds d n i w) .trees) + queued (w .trees) + w .tickets ≡ (rounds d n i w) .tickets + (used (w .trees) + queued ((rounds d n i w) .trees))
   unfolding rounds
@@ -104,7 +101,7 @@ module _ (d : Domain) (acc : Accepted (d .graph)) where
       omega (
         arith,
         round-tickets i w ok (f i (omega arith)),
-        rounds-tickets n (suc i) (round d i w) (round-keeps d acc i w ok .0) (round-slots i w f) (omega (arith, round-count i w)),
+        rounds-tickets n (suc i) (round d i w) (round-keeps d acc i w ok .0) (round-slots i w f) (omega (arith, round-count d i w)),
       )
 
   pub walk-tickets : (ts : List Tree) (s : Search) → SoundTrees d ts → ((i : ℕ) → i < s .«tree_count» → (entry s i) .tree < length ts) → Tickets ts ((walk d ts s) .trees) ((walk d ts s) .tickets)

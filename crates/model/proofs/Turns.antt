@@ -3,13 +3,12 @@
 use mathlib.Core.Path.{_≡_, refl, sym, ap, _∙_, subst}
 use mathlib.Core.Logic.{_⊎_, inl, inr}
 use mathlib.Core.Bool.{Bool, true, false, true≢false}
-use mathlib.Core.Option.{Option, none, some}
 use mathlib.Core.List.{List, [], _∷_, List·Memᴰ, List·Memᴰ·not-nil, List·Memᴰ·cases-cons}
 use Prim.Native.Nat.{ℕ, zero, suc, _+_, _<_, _≤_}
 use native.Mathlib.Nat.{le-trans, le-of-lt}
 use native.Mathlib.Omega.{arith}
-use borrow.Author.Tests.{eqb-true, eqb-false, ltb-true, ltb-false, eq-eqb}
-use lib.Dec.{eqb, ltb}
+use borrow.Author.Tests.{eqb-true, ltb-true, ltb-false}
+use lib.Dec.{ltb}
 use lib.ListN.{length}
 use Rattle.model.specs.declared.CostBound.{CostBound}
 use Rattle.model.specs.declared.CostBound.the-variants.{Unbounded, Bound}
@@ -19,7 +18,7 @@ use Rattle.model.specs.declared.Solution.{Solution}
 use Rattle.model.specs.declared.Solution.the-variants.{Unsolved, At}
 use Rattle.model.specs.Lists.{mem}
 use Rattle.model.specs.Graph.{Domain, Accepted, Leads, total, initialCost}
-use Rattle.model.specs.Tree.{Tree, Node, node, closedAt, evaluation, Going, on, found, over, Growth, grow, least, leastOf}
+use Rattle.model.specs.Tree.{Tree, Node, node, closedAt, evaluation, Going, on, found, over, Growth, least, leastOf}
 use Rattle.model.specs.Sound.{Sound}
 use Rattle.model.specs.Search.{closedCount, remembers, chosen, consider, cheapest, lookup, lookupIf, Turn, findOf, under, grown, turnBy, turn, dearer, holdIf, hold}
 use Rattle.model.proofs.Lists.{Least, least-is, before-cost, mem-nil, mem-head, mem-tail, mem-cases}

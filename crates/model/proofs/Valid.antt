@@ -1,15 +1,13 @@
 -- What refusal 8 leaves: the facts of a record that is not refused; and a search's own record is never refused.
 -- Assumes nothing.
 use mathlib.Core.Path.{_≡_, refl, sym, ap, _∙_, subst}
-use mathlib.Core.Logic.{_⊎_, inl, inr}
-use mathlib.Core.Bool.{Bool, true, false, not, _&&_, _||_, true≢false}
-use mathlib.Core.Option.{Option, none, some}
+use mathlib.Core.Bool.{Bool, true, false, not, _||_, true≢false}
 use mathlib.Core.List.{List, [], _∷_}
-use Prim.Native.Nat.{ℕ, zero, suc, _+_, _<_, _≤_}
+use Prim.Native.Nat.{ℕ, zero, suc, _<_, _≤_}
 use native.Mathlib.Omega.{arith}
 use borrow.Author.Tests.{leb-true, leb-false, lt-ltb, ltb-true, le-leb, eq-eqb, eqb-true}
-use lib.Dec.{eqb, leb, ltb}
-use lib.ListN.{length, getD, take}
+use lib.Dec.{eqb, leb}
+use lib.ListN.{length, getD}
 use lib.Seq.{length-take-le, getD-take}
 use Rattle.model.specs.declared.CostBound.{CostBound}
 use Rattle.model.specs.declared.CostBound.the-variants.{Unbounded, Bound}
@@ -21,15 +19,15 @@ use Rattle.model.specs.declared.BestSolution.{BestSolution}
 use Rattle.model.specs.declared.BestSolution.the-variants.{NoBest, Best}
 use Rattle.model.specs.declared.TreeMemory.{TreeMemory}
 use Rattle.model.specs.declared.Search.{Search}
-use Rattle.model.specs.Lists.{allb, allBelow}
+use Rattle.model.specs.Lists.{allb}
 use Rattle.model.specs.Graph.{Domain, vertexCount}
-use Rattle.model.specs.Tree.{Tree, node, evaluation}
+use Rattle.model.specs.Tree.{Tree}
 use Rattle.model.specs.Sound.{tree, SoundTrees}
-use Rattle.model.specs.Search.{blank, entry, entries, goals, closedCount, countIf, solutionCost, boundOf, bound}
+use Rattle.model.specs.Search.{blank, entry, entries, goals, closedCount, countIf, boundOf, bound}
 use Rattle.model.specs.Valid.{listTests, knownWithin, closesGoal, solutionCloses, entryTests, everyb, bestTests, bestCloses, heldCost, pickCost, lesser, leastHeld, sameCost, isHeld, bestHeld, validTests, valid}
-use Rattle.model.proofs.Bools.{and-true, true-and, or-cases, true-or-right, all-true, true-given}
-use Rattle.model.proofs.Turns.{Holds, Under}
-use Rattle.model.proofs.Rounds.{EntryOk, BestOk, BestsOk, Ready}
+use Rattle.model.proofs.Bools.{and-true, true-and, true-or-right, all-true, true-given}
+use Rattle.model.proofs.Turns.{Holds}
+use Rattle.model.proofs.Rounds.{EntryOk, BestsOk, Ready}
 
 -- ---- tests of all entries
 

@@ -12,11 +12,8 @@ use Rattle.model.specs.Graph.{Graph, Domain, from, to, moveWords, pathWo
 use Rattle.model.specs.Tree.{Tree, Node, node}
 use Rattle.model.specs.Sound.{Sound, Hangs}
 use Rattle.model.specs.Path.{snocIf, pathIn, path, movesOf, moved, wordsIf, wordsIn, words}
+use Rattle.model.proofs.Paths.{moveWords-snoc}
 use Rattle.model.proofs.Reversed.{back, back-snoc, reverse-from}
-
-pub moveWords-snoc : (g : Graph) (l : ℕ) (ls : List ℕ) → moveWords g (ls ++ (l ∷ [])) ≡ moveWords g ls ++ (l ∷ to g l ∷ [])
-moveWords-snoc g l [] = refl
-moveWords-snoc g l (k ∷ ks) = ap (λ (r : List ℕ). k ∷ to g k ∷ r) (moveWords-snoc g l ks)
 
 moved-length : (dir : Direction) (r : List ℕ) (l v : ℕ) → length (moved dir r l v) ≡ length r + 2
 moved-length forward r l v = length-append r (l ∷ v ∷ [])

@@ -3,7 +3,7 @@
 -- ticket by evaluation, then `node_id` (the reference build's tie rule). Nothing connects, so `connect` and `decisive` are left out, and
 -- no lock is poisoned. A path is kept whole, and the best solution as its entry and its cost.
 -- Assumes nothing.
-use mathlib.Core.Bool.{Bool, true, false, not}
+use mathlib.Core.Bool.{Bool, true, false}
 use mathlib.Core.List.{List, [], _∷_, _++_, map}
 use mathlib.Core.Option.{Option, none, some}
 use Prim.Native.Nat.{ℕ, zero, suc, _+_, _*_}
@@ -23,7 +23,6 @@ use Rattle.model.specs.Graph.{Domain, Direction, forward, backward, to, 
 use Rattle.model.specs.Tree.{Tree, Node, node, closedAt, evaluation, least, popped, rootNode}
 use Rattle.model.specs.Sound.{noTree, tree}
 use Rattle.model.specs.Search.{closedCount, entries, goals, entry, solutionCost}
-use Rattle.model.specs.Valid.{valid}
 use Rattle.model.specs.Calls.{Cache, withTrees, firstFault, initializeFaults, stepFaults, AfterRetrace, written}
 use Rattle.model.specs.Demands.{Call, initializing, stepping, retracing, Act, ownStep, ownRetrace, other, Event, stepped, retraced}
 
