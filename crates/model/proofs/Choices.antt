@@ -13,35 +13,46 @@ use lib.Dec.{eqb, leb, eqb·suc-zero}
 use lib.ListN.{length, set, length-append}
 use lib.Seq.{getD-set-same, getD-set-other}
 use Rattle.model.specs.Lists.{upFrom, numbers, those, joined}
-use Rattle.model.specs.Graph.{Graph, Domain, Direction, forward, backward, Accepted, Usable, from, to, vertexCount, edgeCount, leaving, between, choicesBy, choices}
+use Rattle.model.specs.Graph.{Graph, Domain, Direction, forward, backward, Accepted, Usable, from, to, vertexCount, edgeCount, edgesInUse, leaving, between, choicesBy, choices}
 use Rattle.model.specs.Tree.{closedAt}
 use Rattle.model.specs.Sound.{closedEdges}
 use Rattle.model.proofs.Bools.{and-true, true-and}
 use Rattle.model.proofs.Lists.{up-length, numbers-mem, numbers-has, those-mem, those-has, those-length, those-le, those-split, Splits, joined-mem, joined-has}
+
+-- ---- the edges in use
+
+pub in-use-mem : (g : Graph) (l : ℕ) → List·Memᴰ l (edgesInUse g) → Usable g l
+in-use-mem g l m = numbers-mem (edgeCount g) l m
+
+pub in-use-has : (g : Graph) (l : ℕ) → Usable g l → List·Memᴰ l (edgesInUse g)
+in-use-has g l h = numbers-has (edgeCount g) l h
+
+in-use-length : (g : Graph) → length (edgesInUse g) ≡ edgeCount g
+in-use-length g = up-length (edgeCount g) 0
 
 -- ---- the edges that leave a vertex
 
 pub leaving-mem : (g : Graph) (v l : ℕ) → List·Memᴰ l (leaving g v) → Usable g l × (from g l ≡ v)
 unfolding leaving
 leaving-mem g v l m =
-    let r = those-mem (λ (x : ℕ). eqb (from g x) v) (numbers (edgeCount g)) l m in
-    (numbers-mem (edgeCount g) l (r .0), eqb-true (from g l) v (r .1))
+    let r = those-mem (λ (x : ℕ). eqb (from g x) v) (edgesInUse g) l m in
+    (in-use-mem g l (r .0), eqb-true (from g l) v (r .1))
 
 pub leaving-has : (g : Graph) (v l : ℕ) → Usable g l → from g l ≡ v → List·Memᴰ l (leaving g v)
 unfolding leaving
-leaving-has g v l h e = those-has (λ (x : ℕ). eqb (from g x) v) (numbers (edgeCount g)) l (numbers-has (edgeCount g) l h) (eq-eqb (from g l) v e)
+leaving-has g v l h e = those-has (λ (x : ℕ). eqb (from g x) v) (edgesInUse g) l (in-use-has g l h) (eq-eqb (from g l) v e)
 
 pub between-mem : (g : Graph) (v u l : ℕ) → List·Memᴰ l (between g v u) → Usable g l × (from g l ≡ v) × (to g l ≡ u)
 unfolding between
 between-mem g v u l m =
-    let r = those-mem (λ (x : ℕ). eqb (from g x) v && eqb (to g x) u) (numbers (edgeCount g)) l m in
+    let r = those-mem (λ (x : ℕ). eqb (from g x) v && eqb (to g x) u) (edgesInUse g) l m in
     let b = and-true (eqb (from g l) v) (eqb (to g l) u) (r .1) in
-    (numbers-mem (edgeCount g) l (r .0), eqb-true (from g l) v (b .0), eqb-true (to g l) u (b .1))
+    (in-use-mem g l (r .0), eqb-true (from g l) v (b .0), eqb-true (to g l) u (b .1))
 
 pub between-has : (g : Graph) (v u l : ℕ) → Usable g l → from g l ≡ v → to g l ≡ u → List·Memᴰ l (between g v u)
 unfolding between
 between-has g v u l h e f =
-    those-has (λ (x : ℕ). eqb (from g x) v && eqb (to g x) u) (numbers (edgeCount g)) l (numbers-has (edgeCount g) l h)
+    those-has (λ (x : ℕ). eqb (from g x) v && eqb (to g x) u) (edgesInUse g) l (in-use-has g l h)
     (true-and (eqb (from g l) v) (eqb (to g l) u) (eq-eqb (from g l) v e) (eq-eqb (to g l) u f))
 
 -- ---- in the order in which they are queued
@@ -87,7 +98,7 @@ entering-splits g v n l = go (eqb (from g l) v) (decLe (to g l) n) (ℕ-discrete
     go true (no h) (no e) = let more : n < to g l = lt-of-not-le h in inl (ne-eqb (to g l) n e, le-leb n (to g l) (omega arith) ∙ sym (le-leb (suc n) (to g l) (omega arith)))
 
 -- over k vertices from n on
-betweens : (g : Graph) (v k n : ℕ) → length (joined (between g v) (upFrom k n)) ≤ length (those (entering g v n) (numbers (edgeCount g)))
+betweens : (g : Graph) (v k n : ℕ) → length (joined (between g v) (upFrom k n)) ≤ length (those (entering g v n) (edgesInUse g))
 unfolding joined between
 betweens g v zero n = omega arith
 betweens g v (suc k) n =
@@ -95,7 +106,7 @@ betweens g v (suc k) n =
       arith,
       betweens g v k (suc n),
       length-append (between g v n) (joined (between g v) (upFrom k (suc n))),
-      those-split (entering g v (suc n)) (λ (x : ℕ). eqb (from g x) v && eqb (to g x) n) (entering g v n) (entering-splits g v n) (numbers (edgeCount g)),
+      those-split (entering g v (suc n)) (λ (x : ℕ). eqb (from g x) v && eqb (to g x) n) (entering g v n) (entering-splits g v n) (edgesInUse g),
     )
 
 by-few : (dir : Direction) (g : Graph) (v : ℕ) → length (choicesBy dir g v) ≤ length (leaving g v)
@@ -105,7 +116,7 @@ by-few backward g v =
     omega (
       arith,
       betweens g v (vertexCount g) 0,
-      those-le (entering g v 0) (λ (l : ℕ). eqb (from g l) v) (λ l e. and-true (eqb (from g l) v) (leb 0 (to g l)) e .0) (numbers (edgeCount g)),
+      those-le (entering g v 0) (λ (l : ℕ). eqb (from g l) v) (λ l e. and-true (eqb (from g l) v) (leb 0 (to g l)) e .0) (edgesInUse g),
     )
 
 pub choices-few : (d : Domain) (v : ℕ) → length (choices d v) ≤ length (leaving (d .graph) v)
@@ -120,7 +131,7 @@ pub closed-more : (g : Graph) (cl : List ℕ) (v n : ℕ) → v < length cl → 
 unfolding closedEdges leaving
 closed-more g cl v n inside free =
     those-split (λ (l : ℕ). not (eqb (closedAt cl (from g l)) 0)) (λ (l : ℕ). eqb (from g l) v) (λ (l : ℕ). not (eqb (closedAt (set cl v (suc n)) (from g l)) 0)) splits
-    (numbers (edgeCount g))
+    (edgesInUse g)
   where
     splits : (l : ℕ) → Splits (λ (x : ℕ). not (eqb (closedAt cl (from g x)) 0)) (λ (x : ℕ). eqb (from g x) v) (λ (x : ℕ). not (eqb (closedAt (set cl v (suc n)) (from g x)) 0)) l
     splits l = elim (ℕ-discrete (from g l) v) [
@@ -131,4 +142,4 @@ closed-more g cl v n inside free =
 pub closed-few : (g : Graph) (cl : List ℕ) → length (closedEdges g cl) ≤ edgeCount g
 unfolding closedEdges
 closed-few g cl =
-    omega (arith, those-length (λ (l : ℕ). not (eqb (closedAt cl (from g l)) 0)) (numbers (edgeCount g)), up-length (edgeCount g) 0)
+    omega (arith, those-length (λ (l : ℕ). not (eqb (closedAt cl (from g l)) 0)) (edgesInUse g), in-use-length g)

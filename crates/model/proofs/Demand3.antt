@@ -56,7 +56,7 @@ module _ (g : Graph) (acc : Accepted g) (ss gs mine : List ℕ) (ts : List Tree)
       a = acc
 
       none-case : s .«best_solution» ≡ NoBest → Right forward g ss gs unreachable
-      none-case z b ls p = nothing-under d _ z (f b (p .goal) ls (p .start) (p .allowed) (p .wanted) (p .leads))
+      none-case z b ls p = nothing-under d _ z (f b (p .goal) ls (p .start) (p .allowed) (p .sought) (p .leads))
 
       some-case : (x : Shows d a ss gs mine ts s) → Right forward g ss gs (outcomeAt forward (tree ts ((entry s (x .i)) .tree)) (At (x .h)))
       some-case x =
@@ -64,9 +64,9 @@ module _ (g : Graph) (acc : Accepted g) (ss gs mine : List ℕ) (ts : List Tree)
           let o = st .owned _ (x .own) in
           let p = path-of d t (st .sound .each _ (x .slot)) (x .h) (x .inside) in
           record {
-            path = record { goal = (node (t .nodes) (x .h)) .vertex; start = o .root; allowed = o .allowed; wanted = x .goal .sought; leads = p .0 };
+            path = record { goal = (node (t .nodes) (x .h)) .vertex; start = o .root; allowed = o .allowed; sought = x .goal .sought; leads = p .0 };
             totals = sym (p .1);
-            least = λ b ms q. subst (λ (y : CostBound). Under y (totalCost forward g b ms)) (x .bounds) (f b (q .goal) ms (q .start) (q .allowed) (q .wanted) (q .leads));
+            least = λ b ms q. subst (λ (y : CostBound). Under y (totalCost forward g b ms)) (x .bounds) (f b (q .goal) ms (q .start) (q .allowed) (q .sought) (q .leads));
           }
 
   right-backward : State (domain backward g) gs ss mine ts s → Final (domain backward g) gs ss (bound (domain backward g) ts s) → Right backward g ss gs (outcomeOf (domain backward g) ts s)
@@ -86,7 +86,7 @@ module _ (g : Graph) (acc : Accepted g) (ss gs mine : List ℕ) (ts : List Tree)
       under : (b : ℕ) (ls : List ℕ) → SearchPath backward g ss gs b ls → Under (bound d ts s) (totalCost backward g b ls)
       under b ls p =
           subst (Under (bound d ts s)) (omega (arith, back-total g ls))
-          (f (p .goal) b (back ls) (p .wanted) (allowed (p .goal)) (p .start) (back-leads g ls b (p .goal) (p .leads)))
+          (f (p .goal) b (back ls) (p .sought) (allowed (p .goal)) (p .start) (back-leads g ls b (p .goal) (p .leads)))
 
       none-case : s .«best_solution» ≡ NoBest → Right backward g ss gs unreachable
       none-case z b ls p = nothing-under d _ z (under b ls p)
@@ -98,7 +98,7 @@ module _ (g : Graph) (acc : Accepted g) (ss gs mine : List ℕ) (ts : List Tree)
           let p = path-of d t (st .sound .each _ (x .slot)) (x .h) (x .inside) in
           let ls : List ℕ = path (t .nodes) (x .h) in
           record {
-            path = record { goal = t .start; start = x .goal .sought; allowed = tt; wanted = o .root; leads = leads-back g ls (t .start) ((node (t .nodes) (x .h)) .vertex) (p .0) };
+            path = record { goal = t .start; start = x .goal .sought; allowed = tt; sought = o .root; leads = leads-back g ls (t .start) ((node (t .nodes) (x .h)) .vertex) (p .0) };
             totals = omega (arith, p .1, total-back g ls);
             least = λ b ms q. subst (λ (y : CostBound). Under y (totalCost backward g b ms)) (x .bounds) (under b ms q);
           }

@@ -12,10 +12,11 @@ use borrow.Author.Tests.{ltb-true, leb-true, eqb-true, eqb-false, not-true, lt-l
 use lib.Dec.{eqb, leb, ltb}
 use lib.ListN.{length, getD, length-map, List·getD-map, List·getD-eq-default}
 use Rattle.model.specs.Lists.{mem, upto, allIn}
-use Rattle.model.specs.Graph.{Domain, from, to, absent, edgeCount, initialCost}
+use Rattle.model.specs.Graph.{Domain, from, to, absent, edgesInUse, initialCost}
 use Rattle.model.specs.Tree.{Tree, Node, node, closedAt, evaluation, weight}
 use Rattle.model.specs.Sound.{noTree, tree, Hangs, Reached, shut, waits, Sound, SoundTrees, closedb, shutb, reachedb, hangTests, hangsb, soundTests, soundb, starts, distinctb, soundTreesb}
 use Rattle.model.proofs.Lists.{mem-listed, listed-mem}
+use Rattle.model.proofs.Choices.{in-use-mem, in-use-has}
 use Rattle.model.proofs.Bools.{and-true, true-and, or-cases, true-or-left, true-or-right, all-true, true-given, upto-at, at-upto, all-in-at, at-all-in, any-in-at, at-any-in, ascends-at, at-ascends}
 
 -- a test that two numbers differ
@@ -119,7 +120,7 @@ module _ (d : Domain) (t : Tree) where
         begun = begun-at (closedAt cl (t .start)) q (r₁₂ .1 .1 .0);
         onward = λ v i l z h e′. reached-at ns q cl (to (d .graph) l) _
             (subst (λ (x : ℕ). closedb (λ i. reachedb ns q cl (to (d .graph) l) (evaluation ns i + weight d l)) x ≡ true) (ap (closedAt cl) e′ ∙ z)
-            (upto-at _ (edgeCount (d .graph)) (r₁₂ .1 .1 .1 .0) l h));
+            (all-in-at _ (edgesInUse (d .graph)) (r₁₂ .1 .1 .1 .0) l (in-use-has (d .graph) l h)));
       }
 
   pub at-sound : Sound d t → soundb d t ≡ true
@@ -144,7 +145,7 @@ module _ (d : Domain) (t : Tree) where
       (at-upto _ (length cl) (λ v h. word-at _ (closedAt cl v) (λ i z. at-all-in _ q (λ j w. le-leb _ _ (ok .cheapest v i j z w)))))
       (le-leb _ _ (ok .few))
       (at-begun (closedAt cl (t .start)) q (ok .begun))
-      (at-upto _ (edgeCount (d .graph)) (λ l h. word-at _ (closedAt cl (from (d .graph) l)) (λ i z. at-reached ns q cl (to (d .graph) l) _ (ok .onward (from (d .graph) l) i l z h refl))))
+      (at-all-in _ (edgesInUse (d .graph)) (λ l m. word-at _ (closedAt cl (from (d .graph) l)) (λ i z. at-reached ns q cl (to (d .graph) l) _ (ok .onward (from (d .graph) l) i l z (in-use-mem (d .graph) l m) refl))))
 
 -- ---- no number stands twice
 

@@ -3,10 +3,10 @@
 -- Assumes nothing.
 use mathlib.Core.Path.{_≡_}
 use mathlib.Core.Logic.{_⊎_, _≢_}
-use mathlib.Core.Bool.{true, _&&_}
+use mathlib.Core.Bool.{Bool, true, _&&_}
 use mathlib.Core.List.{List, [], _∷_, map}
 use Prim.Native.Nat.{ℕ, _+_, _<_, _≤_}
-use lib.Dec.{eqb}
+use lib.Dec.{eqb, ltb}
 use lib.ListN.{length, getD}
 use Rattle.model.specs.Lists.{numbers, those, joined, mem}
 
@@ -42,9 +42,15 @@ to g l = (getD (g .edges) l noEdge) .to
 abbrev pub cost : Graph → ℕ → ℕ
 cost g l = (getD (g .edges) l noEdge) .cost
 
--- the edges that a path may take
+-- the edges that a path may take: a fact, a test, and all of them by number
 abbrev pub Usable : Graph → ℕ → Type 0
 Usable g l = l < edgeCount g
+
+abbrev pub usableb : Graph → ℕ → Bool
+usableb g l = ltb l (edgeCount g)
+
+abbrev pub edgesInUse : Graph → List ℕ
+edgesInUse g = numbers (edgeCount g)
 
 -- "At most 1,024 motifs and 2,048 links; start cost and picks at most 999,999", and each edge's ends are vertices
 pub record Accepted (g : Graph) : Type 0 where
@@ -95,7 +101,7 @@ pub record SearchPath (dir : Direction) (g : Graph) (starts goals : List ℕ) (a
   pub goal : ℕ
   pub start : mem a starts ≡ true
   pub allowed : MayStart dir g a
-  pub wanted : mem goal goals ≡ true
+  pub sought : mem goal goals ≡ true
   pub leads : Leads g a ls goal
 
 -- ---- the domain of a cache: "Backward, links are turned round"; the Rust's `reversed`
@@ -119,11 +125,11 @@ domain backward g = record { direction = backward; graph = reversed g }
 -- the edges of g that leave v, and of these the ones that enter u, by number
 unfoldable pub leaving : Graph → ℕ → List ℕ
 unfolding those
-leaving g v = those (λ l. eqb (from g l) v) (numbers (edgeCount g))
+leaving g v = those (λ l. eqb (from g l) v) (edgesInUse g)
 
 unfoldable pub between : Graph → ℕ → ℕ → List ℕ
 unfolding those
-between g v u = those (λ l. eqb (from g l) v && eqb (to g l) u) (numbers (edgeCount g))
+between g v u = those (λ l. eqb (from g l) v && eqb (to g l) u) (edgesInUse g)
 
 -- the edges of a closed vertex in the order in which they are queued: forward by number; "Backward .. grouped by entered motif,
 -- then by the motif they left, then number", where the edges held are turned round

@@ -8,8 +8,8 @@ use mathlib.Core.List.{List, [], _∷_, List·Memᴰ, map}
 use Prim.Native.Nat.{ℕ, zero, suc, _+_, _<_, _≤_}
 use lib.Dec.{eqb, leb, ltb}
 use lib.ListN.{length, getD}
-use Rattle.model.specs.Lists.{numbers, those, mem, allb, upto, allIn, anyIn, Ascends, ascendsb}
-use Rattle.model.specs.Graph.{Graph, Domain, from, to, cost, absent, vertexCount, edgeCount, Usable, initialCost}
+use Rattle.model.specs.Lists.{those, mem, allb, upto, allIn, anyIn, Ascends, ascendsb}
+use Rattle.model.specs.Graph.{Graph, Domain, from, to, cost, absent, vertexCount, Usable, usableb, edgesInUse, initialCost}
 use Rattle.model.specs.Tree.{Tree, Node, node, closedAt, evaluation, weight}
 
 abbrev pub noTree : Tree
@@ -37,7 +37,7 @@ pub data Reached (ns : List Node) (q cl : List ℕ) (v k : ℕ) : Type 0 where
 -- "the links leaving closed motifs"
 unfoldable pub closedEdges : Graph → List ℕ → List ℕ
 unfolding those
-closedEdges g cl = those (λ l. not (eqb (closedAt cl (from g l)) 0)) (numbers (edgeCount g))
+closedEdges g cl = those (λ l. not (eqb (closedAt cl (from g l)) 0)) (edgesInUse g)
 
 pub record Sound (d : Domain) (t : Tree) : Type 0 where
   -- "node 0 is the root with its start cost, never `-` (backward 0)"
@@ -90,7 +90,7 @@ hangTests d ns cl i =
     let x = node ns i in
     let p = node ns (x .parent) in
     ltb (x .parent) i
-    ∷ ltb (x .edge) (edgeCount (d .graph))
+    ∷ usableb (d .graph) (x .edge)
     ∷ eqb (from (d .graph) (x .edge)) (p .vertex)
     ∷ eqb (to (d .graph) (x .edge)) (x .vertex)
     ∷ eqb (x .cost) (p .cost + cost (d .graph) (x .edge))
@@ -120,7 +120,7 @@ soundTests d t =
     ∷ upto (λ v. closedb (λ i. allIn (λ j. leb (evaluation ns i) (evaluation ns j)) q) (closedAt cl v)) (length cl)
     ∷ leb (length ns) (suc (length (closedEdges (d .graph) cl)))
     ∷ (not (eqb (closedAt cl (t .start)) 0) || mem 0 q)
-    ∷ upto (λ l. closedb (λ i. reachedb ns q cl (to (d .graph) l) (evaluation ns i + weight d l)) (closedAt cl (from (d .graph) l))) (edgeCount (d .graph))
+    ∷ allIn (λ l. closedb (λ i. reachedb ns q cl (to (d .graph) l) (evaluation ns i + weight d l)) (closedAt cl (from (d .graph) l))) (edgesInUse (d .graph))
     ∷ []
 
 unfoldable pub soundb : Domain → Tree → Bool
