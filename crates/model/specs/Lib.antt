@@ -8,4 +8,5 @@ pub mod Search
 pub mod Valid
 pub mod Calls
 pub mod Demands
+pub mod SimpleGraph
 pub mod Reference
