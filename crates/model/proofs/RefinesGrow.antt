@@ -2,12 +2,12 @@
 -- Assumes nothing.
 use mathlib.Core.Path.{_≡_, refl, ap, ap₂, _∙_, subst}
 use mathlib.Core.Logic.{inl, inr}
-use mathlib.Core.Bool.{Bool, true, false, not}
+use mathlib.Core.Bool.{Bool, true, false, not, _&&_, _||_}
 use mathlib.Core.List.{List, [], _∷_, List·Memᴰ, List·Memᴰ·head, List·Memᴰ·tail}
 use mathlib.Core.Option.{Option, none, some, Option·none-ne-some}
 use Prim.Native.Nat.{ℕ, zero, suc}
 use borrow.Author.Tests.{le-leb}
-use lib.Dec.{eqb, eqb·suc-zero}
+use lib.Dec.{eqb, ltb, eqb·suc-zero}
 use Rattle.model.specs.declared.CostBound.{CostBound}
 use Rattle.model.specs.declared.CostBound.the-variants.{Unbounded, Bound}
 use Rattle.model.specs.declared.KnownLen.{KnownLen}
@@ -15,10 +15,10 @@ use Rattle.model.specs.declared.Solution.{Solution}
 use Rattle.model.specs.declared.Solution.the-variants.{Unsolved, At}
 use Rattle.model.specs.Lists.{mem}
 use Rattle.model.specs.Graph.{Domain, Accepted, choices}
-use Rattle.model.specs.Tree.{Tree, Node, node, closedAt, leastOf, least, popped, close, expanded, Going, on, found, over, Growth, above, goingOn, taken, ticketOf, ticket, grow}
+use Rattle.model.specs.Tree.{Tree, Node, node, closedAt, evaluation, precedes, pick, leastOf, least, popped, close, expanded, Going, on, found, over, Growth, above, goingOn, taken, ticketOf, ticket, grow}
 use Rattle.model.specs.Sound.{Sound}
 use Rattle.model.specs.Search.{closedCount, lookup, Turn, findOf, under, grown, turnBy, turn}
-use Rattle.model.specs.Reference.{rejects, statusOfWord, sameLen, lookUnless, Growing, pastBound, closing, endTicket, expandTop, closeTop, popTop, iterate, growTree, peeks, TurnEnd, exhaustedUnless, grownEnd, turnEnd, readKnown, readSolution}
+use Rattle.model.specs.Reference.{orderingOf, orCompare, topWhen, topOf, top, rejects, statusOfWord, sameLen, lookUnless, Growing, pastBound, closing, endTicket, expandTop, closeTop, popTop, iterate, growTree, peeks, TurnEnd, exhaustedUnless, grownEnd, turnEnd, readKnown, readSolution}
 use Rattle.model.proofs.Lists.{Least, least-is}
 use Rattle.model.proofs.Grow.{popped-sound, expanded-sound}
 use Rattle.model.proofs.Later.{ticket-cases}
@@ -57,6 +57,26 @@ abbrev pub readTurn : Turn → Bool → TurnEnd
 readTurn u x =
     record { tree = u .tree; known = readKnown (u .known); solution = readSolution (u .tree .nodes) (u .find); exhausted = exhaustedUnless (u .more) x }
 
+-- the top of the heap is the least ticket
+top-of : (ns : List Node) (b : ℕ) (q : List ℕ) → topOf ns b q ≡ leastOf ns b q
+unfolding topOf leastOf
+top-of ns b [] = refl
+top-of ns b (i ∷ is) =
+    ap (λ (x : ℕ). topOf ns x is) (go (ltb (evaluation ns i) (evaluation ns b)) (eqb (evaluation ns i) (evaluation ns b)) (ltb i b) (eqb i b))
+    ∙ top-of ns (pick (precedes ns i b) i b) is
+  where
+    go : (p q r t : Bool) → topWhen (orCompare (orderingOf p q) (orderingOf r t)) i b ≡ pick (p || (q && r)) i b
+    go true q r t = refl
+    go false false r t = refl
+    go false true true t = refl
+    go false true false true = refl
+    go false true false false = refl
+
+top-is : (ns : List Node) (q : List ℕ) → top ns q ≡ least ns q
+unfolding top least
+top-is ns [] = refl
+top-is ns (i ∷ is) = ap some (top-of ns i is)
+
 -- the least ticket waits
 least-waits : (ns : List Node) (q : List ℕ) (n : ℕ) → least ns q ≡ some n → List·Memᴰ n q
 unfolding least
@@ -90,7 +110,7 @@ module _ (d : Domain) (gs : List ℕ) (b : CostBound) where
   iterate-is : (t : Tree) (k : ℕ) (g : Going) → Sound d t
       → iterate d gs (readBound b) (readGrowth (record { tree = t; tickets = k; going = g })) (stopped g) ≡ readGrowth (ticket d gs b t k g)
   unfolding ticket
-  iterate-is t k on ok = pop-is t ok k (least (t .nodes) (t .waiting)) refl
+  iterate-is t k on ok = ap (popTop d gs (readBound b) t) (top-is (t .nodes) (t .waiting)) ∙ pop-is t ok k (least (t .nodes) (t .waiting)) refl
   iterate-is t k (found n) ok = refl
   iterate-is t k over ok = refl
 
@@ -119,7 +139,7 @@ module _ (d : Domain) (gs : List ℕ) (b : CostBound) where
           known = some (closedCount (g .tree .closed));
           solution = readSolution (g .tree .nodes) (findOf (g .going));
           exhausted = exhaustedUnless p x;
-        }) (peeks-is (g .tree .nodes) (least (g .tree .nodes) (g .tree .waiting)) b)
+        }) (ap (λ (o : Option ℕ). peeks (g .tree .nodes) o (readBound b)) (top-is (g .tree .nodes) (g .tree .waiting)) ∙ peeks-is (g .tree .nodes) (least (g .tree .nodes) (g .tree .waiting)) b)
 
     pub turn-is : (t : Tree) (known : KnownLen) (x : Bool) → Sound d t
         → turnEnd d gs (readBound b) t (readKnown known) x (lookUnless (sameLen (readKnown known) (closedCount (t .closed))) t gs) ≡ readTurn (turn d gs b t known) x

@@ -20,7 +20,7 @@ use Rattle.model.specs.declared.Search.{Search}
 use Rattle.model.specs.Lists.{mem}
 use Rattle.model.specs.Answers.{Reply, answered, refused, Status, waiting, solved, noPath}
 use Rattle.model.specs.Graph.{Domain, Direction, forward, backward, to, cost, absent, vertexCount, choices, initialCost}
-use Rattle.model.specs.Tree.{Tree, Node, node, closedAt, evaluation, least, popped, rootNode}
+use Rattle.model.specs.Tree.{Tree, Node, node, closedAt, evaluation, popped, rootNode}
 use Rattle.model.specs.Sound.{noTree, tree}
 use Rattle.model.specs.Search.{closedCount, entries, goals, entry, solutionCost}
 use Rattle.model.specs.Calls.{Cache, withTrees, firstFault, initializeFaults, stepFaults, AfterRetrace, written}
@@ -81,6 +81,44 @@ pushUnless false t x =
 
 unfoldable pub pushNode : Tree → Node → Tree
 pushNode t x = pushUnless (rejects (t .nodes) x (statusForKey t (x .vertex))) t x
+
+-- ---- tree.rs: `TreeQueueTicket`, compared by evaluation, then by `node_id` (the line that the reference build adds to both comparisons)
+
+pub data Ordering : Type 0 where
+  Less : Ordering
+  Equal : Ordering
+  Greater : Ordering
+
+abbrev pub orderingOf : Bool → Bool → Ordering
+orderingOf true same = Less
+orderingOf false true = Equal
+orderingOf false false = Greater
+
+abbrev pub compare : ℕ → ℕ → Ordering
+compare a b = orderingOf (ltb a b) (eqb a b)
+
+abbrev pub orCompare : Ordering → Ordering → Ordering
+orCompare Less o = Less
+orCompare Equal o = o
+orCompare Greater o = Greater
+
+abbrev pub ticketCmp : List Node → ℕ → ℕ → Ordering
+ticketCmp ns a b = orCompare (compare (evaluation ns a) (evaluation ns b)) (compare a b)
+
+-- `BinaryHeap<Reverse<TreeQueueTicket<Cost>>>`: on top is the least ticket
+abbrev pub topWhen : Ordering → ℕ → ℕ → ℕ
+topWhen Less i b = i
+topWhen Equal i b = b
+topWhen Greater i b = b
+
+unfoldable pub topOf : List Node → ℕ → List ℕ → ℕ
+topOf ns b [] = b
+topOf ns b (i ∷ is) = topOf ns (topWhen (ticketCmp ns i b) i b) is
+
+unfoldable pub top : List Node → List ℕ → Option ℕ
+unfolding topOf
+top ns [] = none
+top ns (i ∷ is) = some (topOf ns i is)
 
 -- ---- forward.rs: `Memory`, `TreeMemory`
 
@@ -242,10 +280,10 @@ popTop d keys bound t (some top) =
 
 abbrev pub iterate : Domain → List ℕ → Option ℕ → Growing → Bool → Growing
 iterate d keys bound g true = g
-iterate d keys bound g false = popTop d keys bound (g .tree) (least (g .tree .nodes) (g .tree .waiting))
+iterate d keys bound g false = popTop d keys bound (g .tree) (top (g .tree .nodes) (g .tree .waiting))
 
 unfoldable pub growTree : Domain → List ℕ → Option ℕ → ℕ → Growing → Growing
-unfolding popTop least
+unfolding popTop top
 growTree d keys bound zero g = g
 growTree d keys bound (suc j) g = growTree d keys bound j (iterate d keys bound g (g .broken))
 
@@ -277,13 +315,13 @@ exhaustedUnless true x = false
 exhaustedUnless false x = x
 
 unfoldable pub grownEnd : Growing → Option ℕ → Bool → TurnEnd
-unfolding closedCount least
+unfolding closedCount top
 grownEnd g bound x =
     record {
       tree = g .tree;
       known = some (closedCount (g .tree .closed));
       solution = g .solution;
-      exhausted = exhaustedUnless (peeks (g .tree .nodes) (least (g .tree .nodes) (g .tree .waiting)) bound) x;
+      exhausted = exhaustedUnless (peeks (g .tree .nodes) (top (g .tree .nodes) (g .tree .waiting)) bound) x;
     }
 
 -- `if tree_solution.is_none() { .. }`
