@@ -8,11 +8,11 @@ use mathlib.Core.List.{List}
 use Prim.Native.Nat.{ℕ}
 use Rattle.model.specs.declared.Search.{Search}
 use Rattle.model.specs.Answers.{answered}
-use Rattle.model.specs.Graph.{Graph, Direction, Domain, Accepted, domain}
+use Rattle.model.specs.Graph.{Domain, Accepted, domain}
 use Rattle.model.specs.Search.{plantAll, rootsOf, goalsOf, newSearch}
 use Rattle.model.specs.Valid.{valid}
 use Rattle.model.specs.Calls.{Cache, SoundCache, opened, withTrees, AfterStep, firstFault, initializeFaults, initializeBy, initialize, stepIf, step}
-use Rattle.model.specs.Demands.{Call, after, afterAll, Act, Event, events}
+use Rattle.model.specs.Demands.{Call, after, afterAll, Act, events}
 use Rattle.model.specs.Reference as reference
 use Rattle.model.proofs.Keeps.{KeptCache, kept-sound, accepted-kept, initialize-keeps, step-keeps, after-keeps, after-all-keeps}
 use Rattle.model.proofs.Faults.{MayInitialize, may-initialize, no-fault, step-if}
@@ -58,14 +58,8 @@ held-other c s h x =
       state = subst (λ (d : Domain). State d (h .vs) (h .gs) (h .mine) ((after c x) .trees) s) (sym (k .domain)) (state-later (c .domain) (h .acc) (h .vs) (h .gs) (h .mine) (c .trees) ((after c x) .trees) s (k .keeps) (h .state));
     }
 
--- the reference's events of a search that it opens on c
-abbrev pub referenceEvents : Cache → List ℕ → List ℕ → List Act → List Event
-referenceEvents c ss gs acts =
-    let o = reference.initialize (c .domain) (c .trees) ss gs in
-    reference.events (withTrees c (o .trees)) (o .memory) acts
-
 same-from : (c : Cache) → Accepted (c .domain .graph) → SoundCache c → (ss gs : List ℕ) → (initialize c ss gs) .reply ≡ answered tt → (acts : List Act)
-    → referenceEvents c ss gs acts ≡ events ((initialize c ss gs) .cache) ((initialize c ss gs) .search) acts
+    → reference.eventsFrom c ss gs acts ≡ events ((initialize c ss gs) .cache) ((initialize c ss gs) .search) acts
 unfolding initialize
 same-from c acc ok ss gs e acts =
     let z : firstFault (initializeFaults c ss gs) ≡ none = no-fault c ss gs e in
@@ -86,15 +80,11 @@ same-from c acc ok ss gs e acts =
     ∙ events-is Held held-valid held-step held-other acts us s acc (kept-sound c us k) h
     ∙ ap (λ (o : Option ℕ). events ((initializeBy o c ss gs) .cache) ((initializeBy o c ss gs) .search) acts) (sym z)
 
--- The whole claim: the reference is made the same calls, and those that are refused are not made to it.
-pub demand-2 : (dir : Direction) (g : Graph) → Accepted g → (slots : ℕ) (before : List Call) (ss gs : List ℕ)
-    → (initialize (afterAll (opened dir g slots) before) ss gs) .reply ≡ answered tt → (acts : List Act)
-    → referenceEvents (reference.afterAll (opened dir g slots) before) ss gs acts
-    ≡ events ((initialize (afterAll (opened dir g slots) before) ss gs) .cache) ((initialize (afterAll (opened dir g slots) before) ss gs) .search) acts
+pub demand-2 : reference.Demand2
 demand-2 dir g acc slots before ss gs e acts =
     let c₀ : Cache = opened dir g slots in
     let c : Cache = afterAll c₀ before in
     let a : Accepted (c₀ .domain .graph) = opened-accepted dir g slots acc in
     let k : KeptCache c₀ c = after-all-keeps c₀ a (opened-sound dir g slots) before in
-    ap (λ (x : Cache). referenceEvents x ss gs acts) (after-all-is before c₀ a (opened-sound dir g slots))
+    ap (λ (x : Cache). reference.eventsFrom x ss gs acts) (after-all-is before c₀ a (opened-sound dir g slots))
     ∙ same-from c (accepted-kept c₀ c k a) (kept-sound c₀ c k) ss gs e acts

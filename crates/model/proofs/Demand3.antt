@@ -22,7 +22,7 @@ use Rattle.model.specs.Path.{path, words}
 use Rattle.model.specs.Sound.{tree, Sound, SoundTrees}
 use Rattle.model.specs.Search.{entry, boundOf, bound, rootsOf, goalsOf, newSearch}
 use Rattle.model.specs.Calls.{Cache, SoundCache, opened, plantedFor, initializeBy, initialize, step, retrace}
-use Rattle.model.specs.Demands.{Call, afterAll, Act, ownStep, ownRetrace, other, Event, stepped, retraced, events, Chain, ends, own-step, own-retrace, between, distinct, treesOf, waitLimit, unreachable, Right, Owed}
+use Rattle.model.specs.Demands.{Demand3, Demand3OfCalls, Call, afterAll, Act, ownStep, ownRetrace, other, Event, stepped, retraced, events, Chain, ends, own-step, own-retrace, between, distinct, treesOf, waitLimit, unreachable, Right, Owed}
 use Rattle.model.proofs.Least.{path-of}
 use Rattle.model.proofs.Turns.{Under}
 use Rattle.model.proofs.Faults.{MayInitialize, may-initialize, roots-below, no-fault}
@@ -232,10 +232,7 @@ pub opened-accepted : (dir : Direction) (g : Graph) (slots : ℕ) → Accepted g
 unfolding opened
 opened-accepted dir g slots acc = accepted-domain dir g acc
 
--- The whole claim. `before` is the list of calls before the search is opened, `acts` the list after it.
-pub demand-3 : (dir : Direction) (g : Graph) → Accepted g → (slots : ℕ) (before : List Call) (ss gs : List ℕ)
-    → (initialize (afterAll (opened dir g slots) before) ss gs) .reply ≡ answered tt → (acts : List Act)
-    → Owed dir g ss gs (events ((initialize (afterAll (opened dir g slots) before) ss gs) .cache) ((initialize (afterAll (opened dir g slots) before) ss gs) .search) acts)
+pub demand-3 : Demand3
 demand-3 dir g acc slots before ss gs e acts =
     let c : Cache = afterAll (opened dir g slots) before in
     let k : KeptCache (opened dir g slots) c = after-all-keeps (opened dir g slots) (opened-accepted dir g slots acc) (opened-sound dir g slots) before in
@@ -257,8 +254,5 @@ chain-acts (own-step {c = c} {s = s} k) = let r = chain-acts k in (ownStep ∷ r
 chain-acts (own-retrace {c = c} {s = s} {p = p} k) = let r = chain-acts k in (ownRetrace p ∷ r .0, ap (λ (l : List Event). retraced p (retrace c s p) ∷ l) (r .1))
 chain-acts (between {x = x} k) = let r = chain-acts k in (other x ∷ r .0, r .1)
 
-pub demand-3-calls : (dir : Direction) (g : Graph) → Accepted g → (slots : ℕ) (before : List Call) (ss gs : List ℕ)
-    → (initialize (afterAll (opened dir g slots) before) ss gs) .reply ≡ answered tt → (xs : List Call) (es : List Event)
-    → Chain ((initialize (afterAll (opened dir g slots) before) ss gs) .cache) ((initialize (afterAll (opened dir g slots) before) ss gs) .search) xs es
-    → Owed dir g ss gs es
+pub demand-3-calls : Demand3OfCalls
 demand-3-calls dir g acc slots before ss gs e xs es k = let r = chain-acts k in subst (Owed dir g ss gs) (sym (r .1)) (demand-3 dir g acc slots before ss gs e (r .0))

@@ -9,9 +9,9 @@ use lib.ListN.{length, getD}
 use Rattle.model.specs.declared.Search.{Search}
 use Rattle.model.specs.Lists.{keep, mem}
 use Rattle.model.specs.Answers.{Reply, answered, refused, Status, waiting, solved, noPath}
-use Rattle.model.specs.Graph.{Graph, Direction, forward, backward, absent, edgeCount, pathWords, totalCost, SearchPath}
+use Rattle.model.specs.Graph.{Graph, Accepted, Direction, forward, backward, absent, edgeCount, pathWords, totalCost, SearchPath}
 use Rattle.model.specs.Search.{startsOf}
-use Rattle.model.specs.Calls.{Cache, initialize, step, AfterRetrace, retrace, written}
+use Rattle.model.specs.Calls.{Cache, opened, initialize, step, AfterRetrace, retrace, written}
 
 -- "opening a search with any start and wanted lists, and step and `retrace` with any record, strange ones too, and any run slice"
 pub data Call : Type 0 where
@@ -143,3 +143,18 @@ pub record Owed (dir : Direction) (g : Graph) (ss gs : List ℕ) (es : List Even
   pub few : steps first ≤ waitLimit dir g ss gs
   pub late : Every (Late g outcome) last
   pub right : 0 < length last → Right dir g ss gs outcome
+
+-- Demand 3, whole: on an accepted graph, in either direction, with any number of slots. `before` is the list of calls before the search is
+-- opened, `acts` the list after it.
+abbrev pub Demand3 : Type 0
+Demand3 =
+    (dir : Direction) (g : Graph) → Accepted g → (slots : ℕ) (before : List Call) (ss gs : List ℕ)
+    → let r = initialize (afterAll (opened dir g slots) before) ss gs in
+    r .reply ≡ answered tt → (acts : List Act) → Owed dir g ss gs (events (r .cache) (r .search) acts)
+
+-- the same of a plain list of calls and any chain in it
+abbrev pub Demand3OfCalls : Type 0
+Demand3OfCalls =
+    (dir : Direction) (g : Graph) → Accepted g → (slots : ℕ) (before : List Call) (ss gs : List ℕ)
+    → let r = initialize (afterAll (opened dir g slots) before) ss gs in
+    r .reply ≡ answered tt → (xs : List Call) (es : List Event) → Chain (r .cache) (r .search) xs es → Owed dir g ss gs es

@@ -3,6 +3,7 @@
 -- ticket by evaluation, then `node_id` (the reference build's tie rule). Nothing connects, so `connect` and `decisive` are left out, and
 -- no lock is poisoned. A path is kept whole, and the best solution as its entry and its cost.
 -- Assumes nothing.
+use mathlib.Core.Path.{_≡_}
 use mathlib.Core.Bool.{Bool, true, false}
 use mathlib.Core.List.{List, [], _∷_, _++_, map}
 use mathlib.Core.Option.{Option, none, some}
@@ -19,12 +20,14 @@ use Rattle.model.specs.declared.TreeMemory.{TreeMemory}
 use Rattle.model.specs.declared.Search.{Search}
 use Rattle.model.specs.Lists.{mem}
 use Rattle.model.specs.Answers.{Reply, answered, refused, Status, waiting, solved, noPath}
-use Rattle.model.specs.Graph.{Domain, Direction, forward, backward, to, cost, absent, vertexCount, choices, initialCost}
+use Rattle.model.specs.Graph.{Graph, Accepted, Domain, Direction, forward, backward, to, cost, absent, vertexCount, choices, initialCost}
 use Rattle.model.specs.Tree.{Tree, Node, node, closedAt, evaluation, popped, rootNode}
 use Rattle.model.specs.Sound.{noTree, tree}
 use Rattle.model.specs.Search.{closedCount, entries, goals, entry, solutionCost}
-use Rattle.model.specs.Calls.{Cache, withTrees, firstFault, initializeFaults, stepFaults, AfterRetrace, written}
+use Rattle.model.specs.Calls.{Cache, opened, withTrees, firstFault, initializeFaults, stepFaults, AfterRetrace, written}
 use Rattle.model.specs.Demands.{Call, initializing, stepping, retracing, Act, ownStep, ownRetrace, other, Event, stepped, retraced}
+use Rattle.model.specs.Calls as ours
+use Rattle.model.specs.Demands as demands
 
 -- ---- path.rs: `Path`
 
@@ -500,3 +503,14 @@ events c m (ownStep ∷ acts) =
     stepped (replyOf (r .status)) ∷ events (withTrees c (r .trees)) (r .memory) acts
 events c m (ownRetrace p ∷ acts) = retraced p (shownOf (pathStatus (m .exhausted) (c .domain .direction) m) p) ∷ events c m acts
 events c m (other x ∷ acts) = events (after c x) m acts
+
+-- the events of a search that the reference opens on c
+abbrev pub eventsFrom : Cache → List ℕ → List ℕ → List Act → List Event
+eventsFrom c ss gs acts = let o = initialize (c .domain) (c .trees) ss gs in events (withTrees c (o .trees)) (o .memory) acts
+
+-- Demand 2: the reference, made the same calls from the same opening on, gives the same events
+abbrev pub Demand2 : Type 0
+Demand2 =
+    (dir : Direction) (g : Graph) → Accepted g → (slots : ℕ) (before : List Call) (ss gs : List ℕ)
+    → let r = ours.initialize (demands.afterAll (opened dir g slots) before) ss gs in
+    r .reply ≡ answered tt → (acts : List Act) → eventsFrom (afterAll (opened dir g slots) before) ss gs acts ≡ demands.events (r .cache) (r .search) acts
