@@ -3,6 +3,7 @@ pub mod Lists
 pub mod Paths
 pub mod Reversed
 pub mod Choices
+pub mod Rows
 pub mod Tests
 pub mod Words
 pub mod Least
