@@ -9,7 +9,7 @@ use Prim.Native.Nat.{ℕ, zero, suc, _+_, _-_, _*_}
 use lib.ListN.{length, replicate, take}
 use Rattle.model.specs.declared.Search.{Search}
 use Rattle.model.specs.Answers.{Reply, answered, refused, Status, waiting, solved, noPath}
-use Rattle.model.specs.Graph.{Edge, Graph, Direction, forward, backward, absent}
+use Rattle.model.specs.Graph.{Edge, Graph, Direction, forward, backward, absent, domain}
 use Rattle.model.specs.Tree.{Tree}
 use Rattle.model.specs.Path.{path, words}
 use Rattle.model.specs.Sound.{soundTreesb}

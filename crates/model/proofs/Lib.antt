@@ -28,3 +28,4 @@ pub mod RefinesStep
 pub mod RefinesEvents
 pub mod Demand2
 pub mod Examples
+pub mod Altered
