@@ -16,6 +16,7 @@ pub mod Keeps
 pub mod Rounds
 pub mod Valid
 pub mod Tickets
+pub mod Demand1
 pub mod Opens
 pub mod Chain
 pub mod Demand3

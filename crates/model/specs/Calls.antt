@@ -18,7 +18,7 @@ use Rattle.model.specs.Graph.{Graph, Domain, Direction, domain, vertexCo
 use Rattle.model.specs.Tree.{Tree, node}
 use Rattle.model.specs.Path.{movesOf, words}
 use Rattle.model.specs.Sound.{noTree, tree, SoundTrees, soundTreesb}
-use Rattle.model.specs.Search.{entry, walk, Planted, plantAll, rootsOf, goalsOf, newSearch}
+use Rattle.model.specs.Search.{entry, walk, Planted, plantAll, rootsOf, goalsOf, emptySearch, newSearch}
 use Rattle.model.specs.Valid.{valid}
 
 -- slots: T; the trees in use are the list's
@@ -78,7 +78,7 @@ initializeFaults c ss gs =
     ∷ []
 
 abbrev pub initializeBy : Option ℕ → Cache → List ℕ → List ℕ → AfterInitialize
-initializeBy (some n) c ss gs = record { cache = c; search = newSearch [] []; reply = refused n 0 }
+initializeBy (some n) c ss gs = record { cache = c; search = emptySearch; reply = refused n 0 }
 initializeBy none c ss gs =
     let p = plantedFor c ss gs in
     record { cache = withTrees c (p .trees); search = newSearch (p .entries) (goalsOf (c .domain .direction) ss gs); reply = answered tt }

@@ -1,4 +1,4 @@
--- Demand 3: lists of calls on a cache, the chain of one search's own steps and retraces among them, and what is owed of it.
+-- Demand 1, refused calls; and demand 3: lists of calls on a cache, the chain of one search's own steps and retraces among them, and what is owed of it.
 -- Assumes nothing.
 use mathlib.Core.Path.{_≡_}
 use mathlib.Core.Bool.{Bool, true, false, not, _||_}
@@ -10,8 +10,40 @@ use Rattle.model.specs.declared.Search.{Search}
 use Rattle.model.specs.Lists.{keep, mem}
 use Rattle.model.specs.Answers.{Reply, answered, refused, Status, waiting, solved, noPath}
 use Rattle.model.specs.Graph.{Graph, Accepted, Direction, forward, backward, absent, edgeCount, pathWords, totalCost, SearchPath}
-use Rattle.model.specs.Search.{startsOf}
-use Rattle.model.specs.Calls.{Cache, opened, initialize, step, AfterRetrace, retrace, written}
+use Rattle.model.specs.Search.{startsOf, emptySearch}
+use Rattle.model.specs.Calls.{Cache, opened, AfterInitialize, initialize, AfterStep, step, AfterRetrace, retrace, written}
+
+-- ---- demand 1 on these values: "hold, after any refused call, what they held before it"; "Book, run slice and search stay as given"
+
+-- a refused call of each kind, on any cache, sound or not, with any lists, record and slice; "0 where no chart line is at fault"
+pub record RefusedInitialize (c : Cache) (line : ℕ) (r : AfterInitialize) : Type 0 where
+  pub cache : r .cache ≡ c
+  pub search : r .search ≡ emptySearch
+  pub lines : line ≡ 0
+
+pub record RefusedStep (c : Cache) (s : Search) (line : ℕ) (r : AfterStep) : Type 0 where
+  pub cache : r .cache ≡ c
+  pub search : r .search ≡ s
+  pub tickets : r .tickets ≡ 0
+  pub lines : line ≡ 0
+
+pub record RefusedRetrace (p : List ℕ) (line : ℕ) (r : AfterRetrace) : Type 0 where
+  pub path : r .path ≡ p
+  pub lines : line ≡ 0
+
+abbrev pub Demand1 : Type 0
+Demand1 =
+    ((c : Cache) (ss gs : List ℕ) (n line : ℕ) → (initialize c ss gs) .reply ≡ refused n line → RefusedInitialize c line (initialize c ss gs))
+    × ((c : Cache) (s : Search) (n line : ℕ) → (step c s) .reply ≡ refused n line → RefusedStep c s line (step c s))
+    × ((c : Cache) (s : Search) (p : List ℕ) (n line : ℕ) → (retrace c s p) .reply ≡ refused n line → RefusedRetrace p line (retrace c s p))
+
+-- "Words past these stay.": a path of m moves fills 1 + 2 × m words of the slice p, and q is what p then holds
+pub record Filled (p q : List ℕ) (m : ℕ) : Type 0 where
+  pub fits : 1 + 2 * m ≤ length p
+  pub same-length : length q ≡ length p
+  pub past : (i : ℕ) → 1 + 2 * m ≤ i → getD q i 0 ≡ getD p i 0
+
+-- ---- lists of calls
 
 -- "opening a search with any start and wanted lists, and step and `retrace` with any record, strange ones too, and any run slice"
 pub data Call : Type 0 where

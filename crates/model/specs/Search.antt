@@ -256,6 +256,18 @@ abbrev pub goalsOf : Direction → List ℕ → List ℕ → List ℕ
 goalsOf forward ss gs = gs
 goalsOf backward ss gs = startsOf ss
 
+-- no entries, no goals, nothing held, not finished
+abbrev pub emptySearch : Search
+emptySearch =
+    record {
+      trees = replicate 64 blank;
+      «tree_count» = 0;
+      «goal_keys» = replicate 64 0;
+      «goal_count» = 0;
+      «best_solution» = NoBest;
+      exhausted = false;
+    }
+
 -- entries es and goals gs in arrays of 64
 abbrev pub newSearch : List TreeMemory → List ℕ → Search
 newSearch es gs =
