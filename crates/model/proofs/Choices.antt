@@ -13,7 +13,7 @@ use lib.Dec.{eqb, leb, eqb·suc-zero}
 use lib.ListN.{length, set, length-append}
 use lib.Seq.{getD-set-same, getD-set-other}
 use Rattle.model.specs.Lists.{upFrom, numbers, those, joined}
-use Rattle.model.specs.Graph.{Graph, Domain, Direction, forward, backward, Accepted, Usable, from, to, vertexCount, edgeCount, edgesInUse, leaving, between, choicesBy, choices}
+use Rattle.model.specs.Graph.{Graph, Domain, Direction, forward, backward, Accepted, Usable, from, to, vertexCount, edgeCount, edgesInUse, leaving, between, choicesBy, choices, edgeNumbers}
 use Rattle.model.specs.Tree.{closedAt}
 use Rattle.model.specs.Sound.{closedEdges}
 use Rattle.model.proofs.Bools.{and-true, true-and}
@@ -143,3 +143,14 @@ pub closed-few : (g : Graph) (cl : List ℕ) → length (closedEdges g cl) ≤ e
 unfolding closedEdges
 closed-few g cl =
     omega (arith, those-length (λ (l : ℕ). not (eqb (closedAt cl (from g l)) 0)) (edgesInUse g), in-use-length g)
+
+-- ---- the edge numbers of all vertices: each edge in use is among them, and no other
+
+pub edge-numbers-mem : (d : Domain) (l : ℕ) → List·Memᴰ l (edgeNumbers d) → Usable (d .graph) l
+unfolding edgeNumbers
+edge-numbers-mem d l m = let r = joined-mem (choices d) (numbers (vertexCount (d .graph))) l m in choices-mem d (r .0) l (r .2) .0
+
+pub edge-numbers-has : (d : Domain) → Accepted (d .graph) → (l : ℕ) → Usable (d .graph) l → List·Memᴰ l (edgeNumbers d)
+unfolding edgeNumbers
+edge-numbers-has d acc l h =
+    joined-has (choices d) (numbers (vertexCount (d .graph))) (from (d .graph) l) l (numbers-has (vertexCount (d .graph)) _ (acc .leaves l h)) (choices-has d acc (from (d .graph) l) l h refl)

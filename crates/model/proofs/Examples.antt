@@ -7,12 +7,14 @@ use mathlib.Core.List.{List, [], _∷_}
 use mathlib.Core.Option.{Option, none, some}
 use Prim.Native.Nat.{ℕ, zero, suc, _+_, _-_, _*_}
 use lib.ListN.{length, replicate, take}
+use Rattle.model.specs.declared.BestSolution.the-variants.{NoBest}
 use Rattle.model.specs.declared.Search.{Search}
 use Rattle.model.specs.Answers.{Reply, answered, refused, Status, waiting, solved, noPath}
-use Rattle.model.specs.Graph.{Edge, Graph, Direction, forward, backward, absent, domain}
+use Rattle.model.specs.Graph.{Edge, Graph, Direction, forward, backward, absent, domain, edgeNumbers}
 use Rattle.model.specs.Tree.{Tree}
 use Rattle.model.specs.Path.{path, words}
 use Rattle.model.specs.Sound.{soundTreesb}
+use Rattle.model.specs.Search.{blank, entryOf}
 use Rattle.model.specs.Calls.{Cache, opened, withTrees, firstFault, initializeFaults, initialize, step, retrace}
 use Rattle.model.specs.Demands.{waitLimit}
 use Rattle.model.specs.Reference as reference
@@ -265,6 +267,27 @@ sound-forward = refl
 sound-backward : soundTreesb (order4 .cache .domain) (order4 .cache .trees) ≡ true
 unfolding soundTreesb order4
 sound-backward = refl
+
+-- the edges by the vertex left: forward 0, 2 leave 0 and 1 leaves 1; backward 0 enters 1, and 2 and 1 enter 2, from 0 and from 1
+numbers-forward : edgeNumbers (domain forward little) ≡ 0 ∷ 2 ∷ 1 ∷ []
+unfolding edgeNumbers domain little
+numbers-forward = refl
+
+numbers-backward : edgeNumbers (domain backward little) ≡ 0 ∷ 2 ∷ 1 ∷ []
+unfolding edgeNumbers domain little
+numbers-backward = refl
+
+-- the record that F,0 3 1 0,2 opens: 3 is skipped, 0 has two entries and one tree
+opened-record : (initialize (fresh forward) (0 ∷ 3 ∷ 1 ∷ 0 ∷ []) (2 ∷ [])) .search ≡ record {
+  trees = entryOf 0 ∷ entryOf 1 ∷ entryOf 0 ∷ replicate 61 blank;
+  «tree_count» = 3;
+  «goal_keys» = 2 ∷ replicate 63 0;
+  «goal_count» = 1;
+  «best_solution» = NoBest;
+  exhausted = false;
+}
+unfolding initialize fresh
+opened-record = refl
 
 -- ---- on a fresh cache
 

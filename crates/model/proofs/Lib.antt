@@ -17,6 +17,7 @@ pub mod Rounds
 pub mod Valid
 pub mod Tickets
 pub mod Demand1
+pub mod Replies
 pub mod Opens
 pub mod Chain
 pub mod Demand3
