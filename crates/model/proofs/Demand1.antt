@@ -1,14 +1,13 @@
 -- Demand 1 on abstract values: a refused call leaves cache, record and slice as they were. And a path shown leaves the words past it.
 -- Assumes nothing.
 use mathlib.Core.Path.{_≡_, refl, sym, ap, _∙_, subst}
-use mathlib.Core.Bool.{Bool, true, false, _&&_, true≢false}
+use mathlib.Core.Bool.{Bool, true, false, true≢false}
 use mathlib.Core.Option.{Option, none, some}
-use mathlib.Core.List.{List, _++_}
-use Prim.Native.Nat.{ℕ, _+_, _-_, _*_, _<_, _≤_}
+use mathlib.Core.List.{List}
+use Prim.Native.Nat.{ℕ, _+_, _-_, _*_, _≤_}
 use native.Mathlib.Nat.{add-sub-of-le}
 use native.Mathlib.Omega.{arith}
 use borrow.Author.Tests.{ltb-false, not-false}
-use lib.Dec.{ltb}
 use lib.ListN.{length, getD, drop, length-append, length-drop}
 use lib.Seq.{getD-append-add, getD-drop}
 use Rattle.model.specs.declared.BestSolution.{BestSolution}
@@ -19,9 +18,7 @@ use Rattle.model.specs.declared.Search.{Search}
 use Rattle.model.specs.Answers.{Reply, answered, refused}
 use Rattle.model.specs.Tree.{Tree}
 use Rattle.model.specs.Path.{movesOf, words}
-use Rattle.model.specs.Search.{entry}
-use Rattle.model.specs.Valid.{valid}
-use Rattle.model.specs.Calls.{Cache, firstFault, initializeFaults, initializeBy, initialize, stepFaults, stepIf, stepBy, step, isBest, solvedAlready, shownBy, shown, shownTree, movesAt, wordsAt, written, AfterRetrace, retraceFaults, retraceBy, retrace}
+use Rattle.model.specs.Calls.{Cache, firstFault, initializeFaults, initializeBy, initialize, stepFaults, stepIf, stepBy, step, isBest, shownBy, shown, shownTree, movesAt, wordsAt, written, retraceFaults, retraceBy, retrace}
 use Rattle.model.specs.Demands.{RefusedInitialize, RefusedStep, RefusedRetrace, Demand1, Filled}
 use Rattle.model.proofs.Bools.{and-true}
 use Rattle.model.proofs.Faults.{or-none}

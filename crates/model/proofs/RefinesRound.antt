@@ -26,7 +26,7 @@ use Rattle.model.specs.Search as search
 use Rattle.model.specs.Reference.{Path, TreeEntry, noEntry, Memory, get, put, orNoTree, retraceNode, costBound, TurnEnd, turnEnd, sameLen, lookUnless, exhaustedUnless, priorCheaper, bestWhen, bestAfter, bestUnless, bestTurn, solutionUnless, solutionTurn, Stepping, turnOf, turnsOf, readKnown, readSolution, readEntry, readBest, readMemory}
 use Rattle.model.proofs.Later.{Later}
 use Rattle.model.proofs.Turns.{hold-from}
-use Rattle.model.proofs.Keeps.{AllLater, turn-keeps, turn-set, round-keeps, round-count}
+use Rattle.model.proofs.Keeps.{AllLater, turn-keeps, turn-set, round-keeps, round-count, slot-kept}
 use Rattle.model.proofs.Retraced.{retrace-cost}
 use Rattle.model.proofs.Refines.{map-set, get-is, put-is}
 use Rattle.model.proofs.RefinesGrow.{readBound, readTurn, turn-is}
@@ -125,8 +125,8 @@ module _ (d : Domain) (acc : Accepted (d .graph)) (ts : List Tree) (s : Search) 
   entry-other : (j : ℕ) → j ≢ i → entry s′ j ≡ entry s j
   entry-other j z = getD-set-other (s .trees) i j (recordedEntry d e u) blank z
 
-  slot-kept : (j : ℕ) → (entry s′ j) .tree ≡ (entry s j) .tree
-  slot-kept j = elim (ℕ-discrete j i) [ yes z ↦ rw z (ap (λ (x : TreeMemory). x .tree) entry-now) | no z ↦ ap (λ (x : TreeMemory). x .tree) (entry-other j z) ]
+  slot-now : (j : ℕ) → (entry s′ j) .tree ≡ (entry s j) .tree
+  slot-now j = slot-kept d (bound d ts s) s i u j
 
   -- ---- it can be read
 
@@ -144,10 +144,10 @@ module _ (d : Domain) (acc : Accepted (d .graph)) (ts : List Tree) (s : Search) 
   In j n = n < length (tree ts′ ((entry s′ j) .tree) .nodes)
 
   in-old : (j n : ℕ) → j < s .«tree_count» → n < length (tree ts ((entry s j) .tree) .nodes) → In j n
-  in-old j n k z = rw (slot-kept j) (omega (arith, z, all-later .each ((entry s j) .tree) (r .slots j k) .longer))
+  in-old j n k z = rw (slot-now j) (omega (arith, z, all-later .each ((entry s j) .tree) (r .slots j k) .longer))
 
   in-new : (n : ℕ) → n < length ns′ → In i n
-  in-new n z = rw (slot-kept i, now) z
+  in-new n z = rw (slot-now i, now) z
 
   best-in : (o : BestSolution) → s .«best_solution» ≡ o → (f : Solution) → u .find ≡ f
       → (j n : ℕ) → search.bestAfter d ns′ b (e .solution) o i f ≡ Best j n → (j < s .«tree_count») × In j n
@@ -166,7 +166,7 @@ module _ (d : Domain) (acc : Accepted (d .graph)) (ts : List Tree) (s : Search) 
   round-readable =
       record {
         sized = omega (arith, r .sized, length-set (s .trees) i (recordedEntry d e u));
-        slots = λ j k. rw (slot-kept j) (omega (arith, r .slots j k, all-later .longer));
+        slots = λ j k. rw (slot-now j) (omega (arith, r .slots j k, all-later .longer));
         held = λ j n k z. elim (ℕ-discrete j i) [
           | yes y ↦ subst (λ (x : ℕ). In x n) (sym y) (in-new n (hold-in n (sym (ap (λ (x : TreeMemory). x .solution) entry-now) ∙ subst (λ (x : ℕ). (entry s′ x) .solution ≡ At n) y z)))
           | no y ↦ in-old j n k (r .held j n k (sym (ap (λ (x : TreeMemory). x .solution) (entry-other j y)) ∙ z))
@@ -204,11 +204,11 @@ module _ (d : Domain) (acc : Accepted (d .graph)) (ts : List Tree) (s : Search) 
     where
       go : (o : BestSolution) → readBest d ts′ s′ o ≡ readBest d ts′ s o
       go NoBest = refl
-      go (Best j n) = ap (λ (x : ℕ). some (record { entry = j; cost = solutionCost d (tree ts′ x .nodes) n })) (slot-kept j)
+      go (Best j n) = ap (λ (x : ℕ). some (record { entry = j; cost = solutionCost d (tree ts′ x .nodes) n })) (slot-now j)
 
   best-new : (n : ℕ) → readBest d ts′ s′ (Best i n) ≡ some (record { entry = i; cost = (node ns′ n) .cost })
   best-new n =
-      ap (λ (x : ℕ). some (record { entry = i; cost = solutionCost d (tree ts′ x .nodes) n })) (slot-kept i)
+      ap (λ (x : ℕ). some (record { entry = i; cost = solutionCost d (tree ts′ x .nodes) n })) (slot-now i)
       ∙ ap (λ (x : Tree). some (record { entry = i; cost = solutionCost d (x .nodes) n })) now
 
   best-is : bestTurn (readSolution (t .nodes) (e .solution)) (readSolution ns′ (u .find)) (readBest d ts s (s .«best_solution»)) i ≡ readBest d ts′ s′ (s′ .«best_solution»)

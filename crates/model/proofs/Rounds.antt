@@ -25,7 +25,7 @@ use Rattle.model.specs.Tree.{Tree, Node, node, evaluation}
 use Rattle.model.specs.Sound.{tree, noTree, SoundTrees}
 use Rattle.model.specs.Search.{blank, entry, goals, withExhausted, dearer, cheaper, bestIf, bestAfter, hold, holdIf, exhaustedUnless, recordedEntry, recorded, boundOf, bound, Turn, turn, Walk, round, rounds, walk}
 use Rattle.model.proofs.Turns.{Upto, unsolved-at, hold-held, hold-from, Holds, holds-later, Known, known-later, Under, under-le, Turned, turned}
-use Rattle.model.proofs.Keeps.{AllLater, all-refl, all-trans, Keeps, set-keeps}
+use Rattle.model.proofs.Keeps.{AllLater, all-refl, all-trans, Keeps, set-keeps, slot-kept}
 
 -- ---- what a search's own record keeps
 
@@ -172,8 +172,8 @@ module _ (O : ℕ → Type 0) (d : Domain) (acc : Accepted (d .graph)) (ts : Lis
   T : Turned d gs b (tree ts (e .tree)) (e .solution) u
   T = turned d acc gs b (tree ts (e .tree)) (ok .each (e .tree) (ke .inside)) (e .«last_known_closed_len») (e .solution) (ke .known)
 
-  kept : Keeps d ts ts₁
-  kept = set-keeps d ts ok (e .tree) (u .tree) (ke .inside) (T .sound) (T .later)
+  pub round-kept : Keeps d ts ts₁
+  round-kept = set-keeps d ts ok (e .tree) (u .tree) (ke .inside) (T .sound) (T .later)
 
   at : tree ts₁ (e .tree) ≡ u .tree
   at = getD-set-same ts (e .tree) (u .tree) noTree (ke .inside)
@@ -185,8 +185,8 @@ module _ (O : ℕ → Type 0) (d : Domain) (acc : Accepted (d .graph)) (ts : Lis
   entry-j : (j : ℕ) → j ≢ i → entry s₁ j ≡ entry s j
   entry-j j n = getD-set-other (s .trees) i j (recordedEntry d e u) blank n
 
-  slot : (j : ℕ) → (entry s₁ j) .tree ≡ (entry s j) .tree
-  slot j = elim (ℕ-discrete j i) [ yes z ↦ rw z (ap (λ (x : TreeMemory). x .tree) entry-i) | no z ↦ ap (λ (x : TreeMemory). x .tree) (entry-j j z) ]
+  pub round-slot : (j : ℕ) → (entry s₁ j) .tree ≡ (entry s j) .tree
+  round-slot j = slot-kept d (bound d ts s) s i u j
 
   -- a solution held, in the tree after the turn
   held-cost : (n : ℕ) → e .solution ≡ At n → evaluation ns n ≡ evaluation (tree ts (e .tree) .nodes) n
@@ -196,8 +196,8 @@ module _ (O : ℕ → Type 0) (d : Domain) (acc : Accepted (d .graph)) (ts : Lis
   old-bound : (x : BestSolution) → BestsOk gs ts s x → boundOf d ts₁ s₁ x ≡ boundOf d ts s x
   old-bound NoBest k = refl
   old-bound (Best j n) k =
-      ap (λ (y : ℕ). Bound (evaluation (tree ts₁ y .nodes) n)) (slot j)
-      ∙ ap (λ (x : Node). Bound (x .cost)) (same-node O d gs ts ts₁ ok (kept .1) _ n (r .entries j (k .counted) .inside) (k .holds))
+      ap (λ (y : ℕ). Bound (evaluation (tree ts₁ y .nodes) n)) (round-slot j)
+      ∙ ap (λ (x : Node). Bound (x .cost)) (same-node O d gs ts ts₁ ok (round-kept .1) _ n (r .entries j (k .counted) .inside) (k .holds))
 
   -- the best is the old one, and no find is cheaper; or it is the find of this turn
   record Stays : Type 0 where
@@ -250,10 +250,10 @@ module _ (O : ℕ → Type 0) (d : Domain) (acc : Accepted (d .graph)) (ts : Lis
 
   improved-bound : (x : Improves) → b₁ ≡ Bound (evaluation ns (x .n))
   improved-bound x =
-      ap (boundOf d ts₁ s₁) (x .best) ∙ ap (λ (y : ℕ). Bound (evaluation (tree ts₁ y .nodes) (x .n))) (slot i) ∙ ap (λ (t : Tree). Bound (evaluation (t .nodes) (x .n))) at
+      ap (boundOf d ts₁ s₁) (x .best) ∙ ap (λ (y : ℕ). Bound (evaluation (tree ts₁ y .nodes) (x .n))) (round-slot i) ∙ ap (λ (t : Tree). Bound (evaluation (t .nodes) (x .n))) at
 
-  lower : (k : ℕ) → Under b k → Under b₁ k
-  lower k a = elim best-cases [ inl x ↦ rw (x .bounds) a | inr x ↦ subst (λ (y : CostBound). Under y k) (sym (improved-bound x)) (x .under k a) ]
+  pub round-lower : (k : ℕ) → Under b k → Under b₁ k
+  round-lower k a = elim best-cases [ inl x ↦ rw (x .bounds) a | inr x ↦ subst (λ (y : CostBound). Under y k) (sym (improved-bound x)) (x .under k a) ]
 
   find-low : (n : ℕ) → u .find ≡ At n → Under b₁ (evaluation ns n)
   find-low n z = elim best-cases [
@@ -265,7 +265,7 @@ module _ (O : ℕ → Type 0) (d : Domain) (acc : Accepted (d .graph)) (ts : Lis
       one y w = cc
 
   low-now : (n : ℕ) → hold d ns (e .solution) (u .find) ≡ At n → Under b₁ (evaluation ns n)
-  low-now n z = elim (hold-from d ns (e .solution) (u .find) n z) [ inl y ↦ lower _ (rw (held-cost n y) (ke .low n y)) | inr y ↦ find-low n y ]
+  low-now n z = elim (hold-from d ns (e .solution) (u .find) n z) [ inl y ↦ round-lower _ (rw (held-cost n y) (ke .low n y)) | inr y ↦ find-low n y ]
 
   entry-ok : EntryOk O gs ts₁ b₁ (recordedEntry d e u)
   entry-ok =
@@ -279,7 +279,7 @@ module _ (O : ℕ → Type 0) (d : Domain) (acc : Accepted (d .graph)) (ts : Lis
   entries-ok : (j : ℕ) → j < s .«tree_count» → EntryOk O gs ts₁ b₁ (entry s₁ j)
   entries-ok j h = elim (ℕ-discrete j i) [
     | yes z ↦ rw (z, entry-i) entry-ok
-    | no z ↦ rw (entry-j j z) (entry-later O d gs ts ts₁ ok (kept .1) b b₁ lower (entry s j) (r .entries j h))
+    | no z ↦ rw (entry-j j z) (entry-later O d gs ts ts₁ ok (round-kept .1) b b₁ round-lower (entry s j) (r .entries j h))
   ]
 
   -- the entry of the best as it was still holds a solution of its cost
@@ -290,10 +290,10 @@ module _ (O : ℕ → Type 0) (d : Domain) (acc : Accepted (d .graph)) (ts : Lis
       inside = r .entries j (k .counted) .inside
 
       holds : Holds gs (tree ts₁ ((entry s₁ j) .tree)) n
-      holds = rw (slot j) (holds-later gs (tree ts ((entry s j) .tree)) (tree ts₁ ((entry s j) .tree)) n (ok .each _ inside) (kept .1 .each _ inside) (k .holds))
+      holds = rw (round-slot j) (holds-later gs (tree ts ((entry s j) .tree)) (tree ts₁ ((entry s j) .tree)) n (ok .each _ inside) (round-kept .1 .each _ inside) (k .holds))
 
       now : (m : ℕ) → Holds gs (tree ts ((entry s j) .tree)) m → evaluation (tree ts₁ ((entry s j) .tree) .nodes) m ≡ evaluation (tree ts ((entry s j) .tree) .nodes) m
-      now m x = ap (λ (y : Node). y .cost) (same-node O d gs ts ts₁ ok (kept .1) _ m inside x)
+      now m x = ap (λ (y : Node). y .cost) (same-node O d gs ts ts₁ ok (round-kept .1) _ m inside x)
 
       there : j ≢ i → BestOk gs ts₁ s₁ j n
       there z =
@@ -302,7 +302,7 @@ module _ (O : ℕ → Type 0) (d : Domain) (acc : Accepted (d .graph)) (ts : Lis
             holds = holds;
             h = k .h;
             held = ap (λ (x : TreeMemory). x .solution) (entry-j j z) ∙ k .held;
-            level = rw (slot j) (now (k .h) (r .entries j (k .counted) .known .holds (k .h) (k .held)) ∙ k .level ∙ sym (now n (k .holds)));
+            level = rw (round-slot j) (now (k .h) (r .entries j (k .counted) .known .holds (k .h) (k .held)) ∙ k .level ∙ sym (now n (k .holds)));
           }
 
       here : j ≡ i → BestOk gs ts₁ s₁ j n
@@ -318,7 +318,7 @@ module _ (O : ℕ → Type 0) (d : Domain) (acc : Accepted (d .graph)) (ts : Lis
             holds = holds;
             h = m .0;
             held = ap (λ (y : ℕ). (entry s₁ y) .solution) z ∙ ap (λ (x : TreeMemory). x .solution) entry-i ∙ m .1;
-            level = subst (λ (t : Tree). evaluation (t .nodes) (m .0) ≡ evaluation (t .nodes) n) (sym at ∙ ap (λ (y : ℕ). tree ts₁ y) (ap (λ (y : ℕ). (entry s y) .tree) (sym z) ∙ sym (slot j))) (m .2);
+            level = subst (λ (t : Tree). evaluation (t .nodes) (m .0) ≡ evaluation (t .nodes) n) (sym at ∙ ap (λ (y : ℕ). tree ts₁ y) (ap (λ (y : ℕ). (entry s y) .tree) (sym z) ∙ sym (round-slot j))) (m .2);
           }
 
   best-ok : BestsOk gs ts₁ s₁ (s₁ .«best_solution»)
@@ -335,7 +335,7 @@ module _ (O : ℕ → Type 0) (d : Domain) (acc : Accepted (d .graph)) (ts : Lis
       new x =
           record {
             counted = hi;
-            holds = subst (λ (t : Tree). Holds gs t (x .n)) (sym at ∙ ap (tree ts₁) (sym (slot i))) (T .finds (x .n) (x .find));
+            holds = subst (λ (t : Tree). Holds gs t (x .n)) (sym at ∙ ap (tree ts₁) (sym (round-slot i))) (T .finds (x .n) (x .find));
             h = x .n;
             held = ap (λ (y : TreeMemory). y .solution) entry-i ∙ x .holds;
             level = refl;
@@ -358,19 +358,10 @@ module _ (O : ℕ → Type 0) (d : Domain) (acc : Accepted (d .graph)) (ts : Lis
   upto-low (At n) k f a = under-le b₁ _ k a (f n refl)
 
   pub round-covers : u .more ≡ false → Covered d gs ts b₁ (e .tree)
-  round-covers z v ls p l = elim (T .done z v ls p l) [ inl a ↦ upto-low _ _ low-now a | inr a ↦ lower _ a ]
+  round-covers z v ls p l = elim (T .done z v ls p l) [ inl a ↦ upto-low _ _ low-now a | inr a ↦ round-lower _ a ]
 
   pub round-gave : u .more ≡ true → Gave ts ts₁ (e .tree)
   round-gave z = record { inside = ke .inside; gave = rw at (omega (arith, T .tickets, T .moves z)) }
-
-  pub round-kept : Keeps d ts ts₁
-  round-kept = kept
-
-  pub round-lower : (k : ℕ) → Under b k → Under b₁ k
-  round-lower = lower
-
-  pub round-slot : (j : ℕ) → (entry s₁ j) .tree ≡ (entry s j) .tree
-  round-slot = slot
 
   pub round-own : O (e .tree)
   round-own = ke .own

@@ -1,31 +1,27 @@
 -- "Tickets taken equal the growth of nodes used less queue length, summed over trees", for every step with any record.
 -- Assumes nothing.
-use mathlib.Core.Path.{_≡_, refl, ap}
+use mathlib.Core.Path.{_≡_, refl}
 use mathlib.Core.Bool.{Bool, true, false}
 use mathlib.Core.Option.{Option, none, some}
 use mathlib.Core.List.{List, [], _∷_}
 use Prim.Native.Nat.{ℕ, zero, suc, _+_, _<_, _≤_}
-use native.Mathlib.Nat.{lt-of-not-le}
-use native.Mathlib.Decide.{decLe, ℕ-discrete}
 use native.Mathlib.Omega.{arith}
 use borrow.Author.Tests.{not-false}
-use lib.ListN.{length, getD, set, length-set}
-use lib.Seq.{getD-set-same, getD-set-other, set-out}
+use lib.ListN.{length, set, length-set}
 use Rattle.model.specs.declared.CostBound.{CostBound}
 use Rattle.model.specs.declared.KnownLen.{KnownLen}
 use Rattle.model.specs.declared.Solution.{Solution}
 use Rattle.model.specs.declared.Solution.the-variants.{Unsolved, At}
-use Rattle.model.specs.declared.TreeMemory.{TreeMemory}
 use Rattle.model.specs.declared.Search.{Search}
 use Rattle.model.specs.Graph.{Domain, Accepted}
 use Rattle.model.specs.Tree.{Tree}
 use Rattle.model.specs.Sound.{tree, Sound, SoundTrees}
-use Rattle.model.specs.Search.{blank, entry, goals, withExhausted, Turn, lookup, turn, turnBy, recordedEntry, recorded, bound, Walk, round, rounds, walk}
+use Rattle.model.specs.Search.{entry, goals, withExhausted, Turn, lookup, turn, turnBy, bound, Walk, round, rounds, walk}
 use Rattle.model.specs.Valid.{valid}
 use Rattle.model.specs.Calls.{Cache, SoundCache, firstFault, stepFaults, stepIf, stepBy, step}
 use Rattle.model.proofs.Later as growing
 use Rattle.model.proofs.Faults.{or-none}
-use Rattle.model.proofs.Keeps.{round-keeps, round-count}
+use Rattle.model.proofs.Keeps.{round-keeps, slot-kept, round-count}
 use Rattle.model.proofs.Valid.{valid-at}
 
 -- the sum of f over the trees
@@ -58,16 +54,6 @@ turn-tickets d acc gs b t known ok = go (lookup d t gs known)
         ≡ (turnBy d gs b t known o) .tickets + (length (t .nodes) + length ((turnBy d gs b t known o) .tree .waiting))
     go Unsolved = growing.grown d acc gs b t ok 10 .tickets
     go (At n) = omega arith
-
--- the entries keep their slots
-slot-kept : (d : Domain) (b : CostBound) (s : Search) (i : ℕ) (u : Turn) (j : ℕ) → (entry (recorded d b s i u) j) .tree ≡ (entry s j) .tree
-slot-kept d b s i u j = elim (ℕ-discrete j i) [
-  | yes z ↦ elim (decLe (suc i) (length (s .trees))) [
-    | yes h ↦ rw z (ap (λ (x : TreeMemory). x .tree) (getD-set-same (s .trees) i (recordedEntry d (entry s i) u) blank h))
-    | no h ↦ ap (λ (l : List TreeMemory). (getD l j blank) .tree) (set-out (s .trees) i (recordedEntry d (entry s i) u) (omega (arith, lt-of-not-le h)))
-  ]
-  | no z ↦ ap (λ (x : TreeMemory). x .tree) (getD-set-other (s .trees) i j (recordedEntry d (entry s i) u) blank z)
-]
 
 abbrev Slots : Walk → Type 0
 Slots w = (i : ℕ) → i < w .search .«tree_count» → (entry (w .search) i) .tree < length (w .trees)
