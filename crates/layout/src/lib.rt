@@ -1,0 +1,114 @@
+// Where each word of a cache stands. The places are defined once, in specs/Layout.antt; here is one function for each
+// area's start and one for each kind of word.
+ghost use mathlib.Core.Path.{_≡_};
+ghost use Prim.Native.Nat.{_+_, _*_, _<_, _≤_};
+ghost use lib.ListN.{length, getD};
+ghost use Rattle.layout.specs.Layout.{headerWords, initialAt, edgesAt, placesAt, numbersAt, slotsAt, treeWords, needed, Sized, EdgeWord};
+
+// The places of a header's words.
+pub const DIRECTION: usize = 0;
+
+pub const VERTICES: usize = 1;
+
+pub const EDGES: usize = 2;
+
+pub const SLOTS: usize = 3;
+
+pub const TREES: usize = 4;
+
+// The places of an edge's words.
+pub const FROM: usize = 0;
+
+pub const TO: usize = 1;
+
+pub const COST: usize = 2;
+
+// The initial costs stand behind the header.
+pub const INITIAL_AT: usize = 5;
+
+pub fn edges_at(vertices: usize) -> usize
+    requires { ⌜ vertices ≤ 1024 ⌝ }
+    ensures { λ r. ⌜ r ≡ edgesAt vertices ⌝ }
+{
+    INITIAL_AT + vertices
+}
+
+pub fn places_at(vertices: usize, edges: usize) -> usize
+    requires { ⌜ Sized vertices edges ⌝ }
+    ensures { λ r. ⌜ r ≡ placesAt vertices edges ⌝ }
+{
+    edges_at(vertices) + 3 * edges
+}
+
+pub fn numbers_at(vertices: usize, edges: usize) -> usize
+    requires { ⌜ Sized vertices edges ⌝ }
+    ensures { λ r. ⌜ r ≡ numbersAt vertices edges ⌝ }
+{
+    places_at(vertices, edges) + vertices + 1
+}
+
+pub fn slots_at(vertices: usize, edges: usize) -> usize
+    requires { ⌜ Sized vertices edges ⌝ }
+    ensures { λ r. ⌜ r ≡ slotsAt vertices edges ⌝ }
+{
+    numbers_at(vertices, edges) + edges
+}
+
+pub fn tree_words(vertices: usize, edges: usize) -> usize
+    requires { ⌜ Sized vertices edges ⌝ }
+    ensures { λ r. ⌜ r ≡ treeWords vertices edges ⌝ }
+{
+    8 + 5 * edges + vertices
+}
+
+pub fn words_needed(vertices: usize, edges: usize, slots: usize) -> usize
+    requires { ⌜ Sized vertices edges × (slots ≤ 64) ⌝ }
+    ensures { λ r. ⌜ r ≡ needed vertices edges slots ⌝ }
+{
+    slots_at(vertices, edges) + slots * tree_words(vertices, edges)
+}
+
+// One header word.
+pub fn header(words: &[u32], place: usize) -> usize
+    requires { ⌜ (place < headerWords) × (headerWords ≤ length (now words)) ⌝ }
+    ensures { λ r. ⌜ r ≡ getD (now (words .entry)) place 0 ⌝ }
+{
+    wide(words[place])
+}
+
+// The initial cost of a vertex, 4294967295 for none.
+pub fn initial_cost(words: &[u32], vertex: usize) -> u32
+    requires { ⌜ initialAt + vertex < length (now words) ⌝ }
+    ensures { λ r. ⌜ r ≡ getD (now (words .entry)) (initialAt + vertex) 0 ⌝ }
+{
+    words[INITIAL_AT + vertex]
+}
+
+// A word of an edge, by its place among the edge's words.
+pub fn edge_word(words: &[u32], vertices: usize, edge: usize, place: usize) -> u32
+    requires { ⌜ EdgeWord (length (now words)) vertices edge place ⌝ }
+    ensures { λ r. ⌜ r ≡ getD (now (words .entry)) (edgesAt vertices + 3 * edge + place) 0 ⌝ }
+{
+    words[edges_at(vertices) + 3 * edge + place]
+}
+
+// Where the edges of a vertex begin among the edge numbers; those of the last vertex end at the place past it.
+pub fn first_place(words: &[u32], vertices: usize, edges: usize, vertex: usize) -> usize
+    requires { ⌜ Sized vertices edges × (placesAt vertices edges + vertex < length (now words)) ⌝ }
+    ensures { λ r. ⌜ r ≡ getD (now (words .entry)) (placesAt vertices edges + vertex) 0 ⌝ }
+{
+    wide(words[places_at(vertices, edges) + vertex])
+}
+
+pub fn edge_number(words: &[u32], vertices: usize, edges: usize, place: usize) -> usize
+    requires { ⌜ Sized vertices edges × (numbersAt vertices edges + place < length (now words)) ⌝ }
+    ensures { λ r. ⌜ r ≡ getD (now (words .entry)) (numbersAt vertices edges + place) 0 ⌝ }
+{
+    wide(words[numbers_at(vertices, edges) + place])
+}
+
+fn wide(x: u32) -> usize
+    ensures { λ r. ⌜ r ≡ x ⌝ }
+{
+    x as usize
+}

@@ -1,0 +1,79 @@
+-- `text::counts::judge` meets its contract: a turn judges the first of the lines left. The measure is the bytes left.
+-- Assumes nothing.
+use mathlib.Core.Path.{sym, ap, _∙_}
+use Prim.Native.Nat.{_-_, _≤_}
+use native.Mathlib.Omega.{arith}
+use borrow.Author.Needs.{needs}
+use lib.ListN.{length}
+use Rattle.text.specs.Read.{checkFault}
+use Rattle.text.proofs.Judged.{Judging, judging-first, judged-last, judged-unended, judged-fault, judging-next}
+use Rattle.text.proofs.LineCuts.{place-within}
+use Rattle.text.proofs.counts.judge.Statement.{statement}
+use Rattle.text.proofs.counts.judge.Tie as tie
+
+abbrev Inv-loop : tie.InvT-loop
+Inv-loop text counts₀ above₀ at₀ counts above at = Judging text counts above at
+
+abbrev μ-loop : tie.MeasureT-loop
+μ-loop text counts₀ above₀ at₀ counts above at = length text - at
+
+loop-holds : tie.Need-loop-holds Inv-loop μ-loop
+loop-holds c = judging-first _
+
+found-within : (c : tie.After-find Inv-loop μ-loop) → c .find .result ≤ length (c .before .before .before .before .before .args .text .now) - c .before .before .before .loop .at
+found-within c = place-within (c .before .before .before .before .before .args .text .now) (c .before .before .before .loop .at) (c .find .ensures)
+
+returns : tie.Need-returns Inv-loop μ-loop
+returns c = judged-unended (c .before .before .before .before .loop .inv) (c .before .find .ensures) (c .before .before .before .loop-test .taken) (c .if1 .taken)
+
+part-read-line-end : tie.Need-part-read-line-end Inv-loop μ-loop
+part-read-line-end c = omega (arith, found-within (c .before))
+
+returns-2 : tie.Need-returns-2 Inv-loop μ-loop
+returns-2 c =
+    judged-fault (c .before .before .before .before .before .before .before .before .before .before .loop .inv) (c .before .before .before .before .before .before .before .find .ensures) (c .before .before .before .before .before .before .if1 .left) (c .before .before .before .before .read-line .ensures)
+    (ap checkFault (sym (c .before .refusal .given .1)) ∙ c .before .before .before .check .ensures)
+
+add-at : tie.Need-add-at Inv-loop μ-loop
+add-at c = omega (arith, found-within (c .before .before .before .before .before .before .before))
+
+add-at-2 : tie.Need-add-at-2 Inv-loop μ-loop
+add-at-2 c = omega (arith, found-within (c .before .before .before .before .before .before .before))
+
+loop-again : tie.Need-loop-again Inv-loop μ-loop
+loop-again c =
+    judging-next (c .before .before .before .before .before .before .before .before .before .before .loop .inv) (c .before .before .before .before .before .before .before .find .ensures) (c .before .before .before .before .before .before .if1 .left) (c .before .before .before .before .read-line .ensures)
+    (ap checkFault (sym (c .before .enum-told .given .1)) ∙ c .before .before .before .check .ensures) (c .count .ensures)
+
+returns-3 : tie.Need-returns-3 Inv-loop μ-loop
+returns-3 c = judged-last (c .before .loop .inv) (c .loop-test .left)
+
+pub judge-spec : {M : Type 1} → statement M
+judge-spec =
+    tie.close
+    (tie.spec
+    Inv-loop
+    μ-loop
+    loop-holds
+    (λ c. search needs)
+    (λ c. search needs)
+    (λ c. search needs)
+    (λ c κs. search needs)
+    (λ c. search needs)
+    returns
+    (λ c. search needs)
+    (λ c. search needs)
+    part-read-line-end
+    (λ c κs. search needs)
+    (λ c κs. search needs)
+    (λ c. search needs)
+    (λ c. search needs)
+    returns-2
+    (λ c. search needs)
+    (λ c κs. search needs)
+    add-at
+    add-at-2
+    (λ c. search needs)
+    (λ c. search needs)
+    loop-again
+    returns-3)
