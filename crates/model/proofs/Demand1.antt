@@ -64,20 +64,24 @@ retrace-refused c s p n line = go (firstFault (retraceFaults c s p))
 pub demand-1 : Demand1
 demand-1 = (initialize-refused, step-refused, retrace-refused)
 
--- ---- the words past a path
+-- ---- the words past those written
+
+pub written-length : (ws p : List ℕ) → length ws ≤ length p → length (written ws p) ≡ length p
+written-length ws p h = omega (arith, length-append ws (drop (length ws) p), length-drop (length ws) p)
+
+pub written-past : (ws p : List ℕ) (i : ℕ) → length ws ≤ i → getD (written ws p) i 0 ≡ getD p i 0
+written-past ws p i le =
+    ap (λ (j : ℕ). getD (written ws p) j 0) (sym (add-sub-of-le le))
+    ∙ getD-append-add ws (drop (length ws) p) (i - length ws) 0
+    ∙ getD-drop (length ws) p (i - length ws) 0
+    ∙ ap (λ (j : ℕ). getD p j 0) (add-sub-of-le le)
 
 filled : (ws p : List ℕ) (m : ℕ) → length ws ≡ 1 + 2 * m → 1 + 2 * m ≤ length p → Filled p (written ws p) m
-filled ws p m e h =
-    record {
-      fits = h;
-      same-length = omega (arith, length-append ws (drop (length ws) p), length-drop (length ws) p, e, h);
-      past = λ i k.
-          let le : length ws ≤ i = omega (arith, e, k) in
-          ap (λ (j : ℕ). getD (written ws p) j 0) (sym (add-sub-of-le le))
-          ∙ getD-append-add ws (drop (length ws) p) (i - length ws) 0
-          ∙ getD-drop (length ws) p (i - length ws) 0
-          ∙ ap (λ (j : ℕ). getD p j 0) (add-sub-of-le le);
-    }
+filled ws p m e h = record {
+  fits = h;
+  same-length = written-length ws p (omega arith);
+  past = λ i k. written-past ws p i (omega arith);
+}
 
 -- any record, on any cache: where a path is answered, its words are 1 + 2 × moves, and the slice holds what it held past them
 pub retrace-fills : (c : Cache) (s : Search) (p : List ℕ) (m : ℕ) → (retrace c s p) .reply ≡ answered m → Filled p ((retrace c s p) .path) m

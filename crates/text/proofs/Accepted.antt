@@ -1,6 +1,6 @@
 -- A text that is not refused has the graph that it counts, and an accepted one.
 -- Assumes nothing.
-use mathlib.Core.Path.{_≡_, refl}
+use mathlib.Core.Path.{_≡_, refl, ap}
 use mathlib.Core.Logic.{_⊎_, inl, inr}
 use mathlib.Core.Bool.{false}
 use mathlib.Core.List.{List, [], _∷_}
@@ -8,7 +8,7 @@ use Prim.Native.Nat.{ℕ, zero, suc, _+_, _<_, _≤_}
 use native.Mathlib.Omega.{arith}
 use borrow.Author.Tests.{ltb-false}
 use lib.ListN.{length, getD}
-use Rattle.model.specs.Answers.{answered}
+use Rattle.model.specs.Answers.{Reply, answered}
 use Rattle.model.specs.Graph as graph
 use Rattle.model.specs.Graph.{Accepted, absent, noEdge, vertexCount, edgeCount}
 use Rattle.text.specs.declared.lines.InitialCost.{InitialCost}
@@ -17,12 +17,12 @@ use Rattle.text.specs.declared.lines.Line.{Line}
 use Rattle.text.specs.declared.lines.Line.the-variants.{Vertex, Edge, Illegal}
 use Rattle.text.specs.declared.counts.Counts.{Counts}
 use Rattle.text.specs.Lines.{linesOf}
-use Rattle.text.specs.Read.{dear, initialWord, counted, judgeFrom, noCounts, judge, initialsOf, edgesOf, graphOf}
+use Rattle.text.specs.Read.{dear, initialWord, counted, judgeFrom, noCounts, judge, initialsOf, edgesOf, graphOf, graphBy, readGraph}
 use Rattle.text.proofs.Passed.{fine-first, passes-first, passes-rest, answered-empty, judged-within}
 
 -- ---- the lines below those that k counts
 
-counts-from : (n : ℕ) (k : Counts) (xs : List Line) {z : Counts} → judgeFrom n k xs ≡ answered z
+pub counts-from : (n : ℕ) (k : Counts) (xs : List Line) {z : Counts} → judgeFrom n k xs ≡ answered z
     → (k .vertices + length (initialsOf xs) ≡ z .vertices) × (k .edges + length (edgesOf xs) ≡ z .edges)
 unfolding initialsOf edgesOf counted
 counts-from n k [] e = rw (answered-empty n k e) (omega arith)
@@ -77,3 +77,8 @@ judged-accepted text k e =
       enters = λ l h. omega (arith, edges l h);
       costs = λ l h. edges l h .2;
     }
+
+-- the graph or the first fault, by what judging says
+pub read-is : (text : List ℕ) {r : Reply Counts} → judge text ≡ r → readGraph text ≡ graphBy r (graphOf text)
+unfolding readGraph
+read-is text e = ap (λ (r : Reply Counts). graphBy r (graphOf text)) e

@@ -2,6 +2,7 @@
 pub mod Numbers
 pub mod Parted
 pub mod Parts
+pub mod Faults
 pub mod Fields
 pub mod Passed
 pub mod LineCuts

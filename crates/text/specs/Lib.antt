@@ -1,3 +1,4 @@
 pub mod Bytes
 pub mod Lines
+pub mod Print
 pub mod Read

@@ -1,10 +1,12 @@
 -- The graph of a text, or the first fault of its lines.
 -- Assumes nothing.
+use mathlib.Core.Path.{_≡_}
 use mathlib.Core.Bool.{Bool, true, false, not, _||_}
 use mathlib.Core.List.{List, [], _∷_}
 use mathlib.Core.Option.{Option, none, some}
-use Prim.Native.Nat.{ℕ, suc, _+_}
+use Prim.Native.Nat.{ℕ, _+_, _<_}
 use lib.Dec.{eqb, leb, ltb}
+use lib.ListN.{length, getD, take}
 use Rattle.model.specs.Answers.{Reply, answered, refused, number}
 use Rattle.model.specs.Graph.{Graph, Edge, absent}
 use Rattle.model.specs.Calls.{Fault, firstFault}
@@ -70,6 +72,19 @@ noCounts = record { vertices = 0; edges = 0 }
 unfoldable pub judge : List ℕ → Reply Counts
 unfolding judgeFrom linesOf
 judge text = judgeFrom 1 noCounts (linesOf text)
+
+-- what "first" means, of lines below those that k counts, the first of them line n: the lines above line `at` have no fault, and of its
+-- own faults f is the first
+pub record FaultFrom (n : ℕ) (k : Counts) (xs : List Line) (f at : ℕ) : Type 0 where
+  pub above : ℕ
+  pub place : at ≡ above + n
+  pub inside : above < length xs
+  pub counts : Counts
+  pub passed : judgeFrom n k (take above xs) ≡ answered counts
+  pub fault : firstFault (lineFaults counts (getD xs above line.Illegal)) ≡ some f
+
+abbrev pub FirstFault : List ℕ → ℕ → ℕ → Type 0
+FirstFault text f at = FaultFrom 1 noCounts (linesOf text) f at
 
 -- ---- the graph: "numbers run 0, 1, 2 in order"; "Links are numbered from 0 in file order"
 

@@ -1,0 +1,87 @@
+-- The graph that words hold: its counts, its edges word by word, and that the words of a graph hold it.
+-- Assumes nothing.
+use mathlib.Core.Path.{_≡_, refl, sym, ap, _∙_}
+use mathlib.Core.List.{List, [], _∷_, _++_}
+use Prim.Native.Nat.{ℕ, zero, suc, _+_, _*_, _<_, _≤_}
+use native.Mathlib.Omega.{arith}
+use lib.ListN.{length, getD, take, drop, length-drop}
+use lib.Seq.{length-take-le, getD-drop, drop-drop, take-at, drop-at}
+use Rattle.model.specs.Graph.{Edge, Graph, noEdge, vertexCount, edgeCount, from, to, cost}
+use Rattle.layout.specs.Layout.{edgesAt}
+use Rattle.layout.specs.Words.{edgeWords}
+use Rattle.layout.specs.Read.{edgesIn, graphIn}
+
+-- ---- counts
+
+edges-in-length : (l : ℕ) (ws : List ℕ) → length (edgesIn l ws) ≡ l
+edges-in-length zero ws = refl
+edges-in-length (suc l) ws = ap suc (edges-in-length l (drop 3 ws))
+
+pub edge-count-in : (m l : ℕ) (ws : List ℕ) → edgeCount (graphIn m l ws) ≡ l
+unfolding graphIn
+edge-count-in m l ws = edges-in-length l (drop (edgesAt m) ws)
+
+pub vertex-count-in : (m l : ℕ) (ws : List ℕ) → 5 + m ≤ length ws → vertexCount (graphIn m l ws) ≡ m
+unfolding graphIn
+vertex-count-in m l ws h = length-take-le m (drop 5 ws) (omega (arith, length-drop 5 ws))
+
+pub edge-words-length : (es : List Edge) → length (edgeWords es) ≡ 3 * length es
+edge-words-length [] = refl
+edge-words-length (e ∷ es) = omega (arith, edge-words-length es)
+
+-- ---- an edge's words
+
+-- the edge whose words stand from `at` on
+abbrev edgeAt : List ℕ → ℕ → Edge
+edgeAt ws at = record { from = getD ws at 0; to = getD ws (at + 1) 0; cost = getD ws (at + 2) 0 }
+
+edge-at-drop : (n : ℕ) (ws : List ℕ) (j k : ℕ) → n + j ≡ k → edgeAt (drop n ws) j ≡ edgeAt ws k
+edge-at-drop n ws j k e = λ i. record { from = word j k e i; to = word (j + 1) (k + 1) (omega arith) i; cost = word (j + 2) (k + 2) (omega arith) i }
+  where
+    word : (a b : ℕ) → n + a ≡ b → getD (drop n ws) a 0 ≡ getD ws b 0
+    word a b e = getD-drop n ws a 0 ∙ ap (λ (c : ℕ). getD ws c 0) e
+
+edges-in-at : (l : ℕ) (ws : List ℕ) (e : ℕ) → e < l → getD (edgesIn l ws) e noEdge ≡ edgeAt ws (3 * e)
+edges-in-at zero ws e h = absurd (omega arith)
+edges-in-at (suc l) ws zero h = refl
+edges-in-at (suc l) ws (suc e) h = edges-in-at l (drop 3 ws) e (omega arith) ∙ edge-at-drop 3 ws (3 * e) (3 * suc e) (omega arith)
+
+edge-in : (m l : ℕ) (ws : List ℕ) (e : ℕ) → e < l → getD (graphIn m l ws .edges) e noEdge ≡ edgeAt ws (edgesAt m + 3 * e)
+unfolding graphIn
+edge-in m l ws e h = edges-in-at l (drop (edgesAt m) ws) e h ∙ edge-at-drop (edgesAt m) ws (3 * e) (edgesAt m + 3 * e) refl
+
+pub from-word : (m l : ℕ) (ws : List ℕ) (e : ℕ) → e < l → from (graphIn m l ws) e ≡ getD ws (edgesAt m + 3 * e) 0
+from-word m l ws e h = ap (λ (x : Edge). x .from) (edge-in m l ws e h)
+
+pub to-word : (m l : ℕ) (ws : List ℕ) (e : ℕ) → e < l → to (graphIn m l ws) e ≡ getD ws (edgesAt m + 3 * e + 1) 0
+to-word m l ws e h = ap (λ (x : Edge). x .to) (edge-in m l ws e h)
+
+pub cost-word : (m l : ℕ) (ws : List ℕ) (e : ℕ) → e < l → cost (graphIn m l ws) e ≡ getD ws (edgesAt m + 3 * e + 2) 0
+cost-word m l ws e h = ap (λ (x : Edge). x .cost) (edge-in m l ws e h)
+
+-- ---- a graph's own words
+
+edges-in-words : (es : List Edge) (rest : List ℕ) → edgesIn (length es) (edgeWords es ++ rest) ≡ es
+edges-in-words [] rest = refl
+edges-in-words (e ∷ es) rest = ap (λ (xs : List Edge). e ∷ xs) (edges-in-words es rest)
+
+-- h: the header
+pub graph-in : (h : List ℕ) (g : Graph) (rest : List ℕ) → length h ≡ 5
+    → graphIn (vertexCount g) (edgeCount g) (h ++ (g .initial ++ (edgeWords (g .edges) ++ rest))) ≡ g
+unfolding graphIn
+graph-in h g rest five = λ i. record { initial = initials i; edges = edges i }
+  where
+    words : List ℕ
+    words = edgeWords (g .edges) ++ rest
+
+    behind : drop 5 (h ++ (g .initial ++ words)) ≡ g .initial ++ words
+    behind = drop-at h (g .initial ++ words) 5 five
+
+    initials : take (vertexCount g) (drop 5 (h ++ (g .initial ++ words))) ≡ g .initial
+    initials = ap (take (vertexCount g)) behind ∙ take-at (g .initial) words (vertexCount g) refl
+
+    edges : edgesIn (edgeCount g) (drop (edgesAt (vertexCount g)) (h ++ (g .initial ++ words))) ≡ g .edges
+    edges =
+        ap (edgesIn (edgeCount g))
+        (sym (drop-drop (vertexCount g) 5 (h ++ (g .initial ++ words))) ∙ ap (drop (vertexCount g)) behind ∙ drop-at (g .initial) words (vertexCount g) refl)
+        ∙ edges-in-words (g .edges) rest
