@@ -20,15 +20,13 @@ use Rattle.model.specs.Tree.{Tree}
 use Rattle.model.specs.Path.{movesOf, words}
 use Rattle.model.specs.Calls.{Cache, firstFault, initializeFaults, initializeBy, initialize, stepFaults, stepIf, stepBy, step, isBest, shownBy, shown, shownTree, movesAt, wordsAt, written, retraceFaults, retraceBy, retrace}
 use Rattle.model.specs.Demands.{RefusedInitialize, RefusedStep, RefusedRetrace, Demand1, Filled}
+use Rattle.model.proofs.Replies.{answered-refused}
 use Rattle.model.proofs.Bools.{and-true}
 use Rattle.model.proofs.Faults.{or-none}
 use Rattle.model.proofs.Valid.{valid-at}
 use Rattle.model.proofs.Words.{words-count}
 
 -- an answer is no refusal
-never : {A : Type 0} (a : A) (n line : ℕ) → _≡_ {A = Reply A} (answered a) (refused n line) → ⊥
-never a n line e = let z : _≡_ {A = ℕ} 0 1 = cc in omega arith
-
 -- the line that a refusal of these calls bears
 line-is : {A : Type 0} (n m line : ℕ) → _≡_ {A = Reply A} (refused n 0) (refused m line) → line ≡ 0
 line-is n m line e = cc
@@ -38,7 +36,7 @@ unfolding initialize
 initialize-refused c ss gs n line = go (firstFault (initializeFaults c ss gs))
   where
     go : (o : Option ℕ) → (initializeBy o c ss gs) .reply ≡ refused n line → RefusedInitialize c line (initializeBy o c ss gs)
-    go none e = absurd (never tt n line e)
+    go none e = absurd (answered-refused tt n line e)
     go (some m) e = record { cache = refl; search = refl; lines = line-is m n line e }
 
 step-refused : (c : Cache) (s : Search) (n line : ℕ) → (step c s) .reply ≡ refused n line → RefusedStep c s line (step c s)
@@ -46,8 +44,8 @@ unfolding step
 step-refused c s n line = go (firstFault (stepFaults c s))
   where
     by-mark : (x : Bool) → (stepIf x c s) .reply ≡ refused n line → RefusedStep c s line (stepIf x c s)
-    by-mark true e = absurd (never _ n line e)
-    by-mark false e = absurd (never _ n line e)
+    by-mark true e = absurd (answered-refused _ n line e)
+    by-mark false e = absurd (answered-refused _ n line e)
 
     go : (o : Option ℕ) → (stepBy o c s) .reply ≡ refused n line → RefusedStep c s line (stepBy o c s)
     go none e = by-mark (s .exhausted) e
@@ -58,7 +56,7 @@ unfolding retrace
 retrace-refused c s p n line = go (firstFault (retraceFaults c s p))
   where
     go : (o : Option ℕ) → (retraceBy o c s p) .reply ≡ refused n line → RefusedRetrace p line (retraceBy o c s p)
-    go none e = absurd (never _ n line e)
+    go none e = absurd (answered-refused _ n line e)
     go (some m) e = record { path = refl; lines = line-is m n line e }
 
 pub demand-1 : Demand1
@@ -100,7 +98,7 @@ retrace-fills c s p m = go (firstFault (retraceFaults c s p)) refl
         subst (λ (x : Solution). 1 + 2 * movesAt t x ≤ length p → movesAt t x ≡ m → Filled p (written (wordsAt (c .domain .direction) t x) p) m) (sym z) (at-node t h) k e
 
     go : (o : Option ℕ) → firstFault (retraceFaults c s p) ≡ o → (retraceBy o c s p) .reply ≡ answered m → Filled p ((retraceBy o c s p) .path) m
-    go (some n) f e = absurd (never m n 0 (sym e))
+    go (some n) f e = absurd (answered-refused m n 0 (sym e))
     go none f e =
         let a = or-none _ _ _ f in
         let b = or-none _ _ _ (a .1) in

@@ -21,6 +21,7 @@ use Rattle.model.specs.Search.{rootsOf}
 use Rattle.model.specs.Valid.{valid}
 use Rattle.model.specs.Calls.{Cache, orElse, firstFault, plantedFor, initializeFaults, initializeBy, initialize, shown, shownTree, stepIf, stepBy, step, AfterRetrace, solvedAlready, movesAt, wordsAt, written, retraceFaults, retraceBy, retrace}
 use Rattle.model.proofs.Bools.{and-true, all-below}
+use Rattle.model.proofs.Replies.{answered-refused}
 
 -- ---- opening a search
 
@@ -54,12 +55,9 @@ pub no-fault : (c : Cache) (ss gs : List ℕ) → (initialize c ss gs) .reply �
 unfolding initialize
 no-fault c ss gs e = go (firstFault (initializeFaults c ss gs)) refl e
   where
-    clash : (n : ℕ) → _≡_ {A = Reply (Unit {0})} (refused n 0) (answered tt) → ⊥
-    clash n z = let y : _≡_ {A = ℕ} 0 1 = cc in omega arith
-
     go : (o : Option ℕ) → firstFault (initializeFaults c ss gs) ≡ o → (initializeBy o c ss gs) .reply ≡ answered tt → firstFault (initializeFaults c ss gs) ≡ none
     go none p q = p
-    go (some n) p q = absurd (clash n q)
+    go (some n) p q = absurd (answered-refused tt n 0 (sym q))
 
 -- ---- a step
 

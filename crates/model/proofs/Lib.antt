@@ -1,4 +1,5 @@
 pub mod Bools
+pub mod Replies
 pub mod Lists
 pub mod Paths
 pub mod Reversed
@@ -17,7 +18,6 @@ pub mod Rounds
 pub mod Valid
 pub mod Tickets
 pub mod Demand1
-pub mod Replies
 pub mod Opens
 pub mod Chain
 pub mod Demand3

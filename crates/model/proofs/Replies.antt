@@ -4,6 +4,7 @@
 use mathlib.Core.Path.{_≡_, refl, sym, ap, _∙_}
 use mathlib.Core.List.{List, [], _∷_, map}
 use Prim.Native.Nat.{ℕ, _-_}
+use native.Mathlib.Omega.{arith}
 use lib.ListN.{getD}
 use Rattle.model.specs.declared.Refusal.{Refusal}
 use Rattle.model.specs.declared.Refusal.the-variants.{Malformed, OutOfOrder, NoSuchVertex, OverLimit, ShortCache, TreesFull, Unsound, InvalidSearch, NotSolved, ShortPath}
@@ -98,3 +99,7 @@ step-told a b e = sym (step-from a) ∙ ap stepFrom e ∙ step-from b
 
 pub retrace-told : (a b : RetraceAnswer) → retraceReply a ≡ retraceReply b → a ≡ b
 retrace-told a b e = sym (retrace-from a) ∙ ap retraceFrom e ∙ retrace-from b
+
+-- no reply is both
+pub answered-refused : {A : Type 0} (a : A) (n line : ℕ) → _≡_ {A = Reply A} (answered a) (refused n line) → ⊥
+answered-refused a n line e = let z : _≡_ {A = ℕ} 0 1 = cc in omega arith

@@ -30,7 +30,7 @@ counts-from n k (Illegal ∷ xs) e = counts-from (n + 1) k xs (passes-rest n k I
 counts-from n k (Vertex v i ∷ xs) e = omega (arith, counts-from (n + 1) (counted k (Vertex v i)) xs (passes-rest n k (Vertex v i) xs e))
 counts-from n k (Edge a b c ∷ xs) e = omega (arith, counts-from (n + 1) (counted k (Edge a b c)) xs (passes-rest n k (Edge a b c) xs e))
 
-abbrev Start : ℕ → Type 0
+abbrev pub Start : ℕ → Type 0
 Start c = (c ≡ absent) ⊎ (c ≤ 999999)
 
 start : (i : InitialCost) → dear i ≡ false → Start (initialWord i)
@@ -45,7 +45,7 @@ starts-from n k (Vertex u i ∷ xs) e zero = start i (fine-first n k (Vertex u i
 starts-from n k (Vertex u i ∷ xs) e (suc v) = starts-from (n + 1) (counted k (Vertex u i)) xs (passes-rest n k (Vertex u i) xs e) v
 starts-from n k (Edge a b c ∷ xs) e v = starts-from (n + 1) (counted k (Edge a b c)) xs (passes-rest n k (Edge a b c) xs e) v
 
-abbrev Sound : Counts → graph.Edge → Type 0
+abbrev pub Sound : Counts → graph.Edge → Type 0
 Sound z e = (e .from < z .vertices) × (e .to < z .vertices) × (e .cost ≤ 999999)
 
 edges-from : (n : ℕ) (k : Counts) (xs : List Line) {z : Counts} → judgeFrom n k xs ≡ answered z

@@ -6,8 +6,9 @@ use Prim.Native.Nat.{ℕ}
 use Prim.Native.Char.{code}
 use Prim.Native.String as string
 use Rattle.model.specs.Answers.{Reply, answered, refused}
-use Rattle.model.specs.Graph.{absent}
+use Rattle.model.specs.Graph.{Graph, absent}
 use Rattle.text.specs.declared.counts.Counts.{Counts}
+use Rattle.text.specs.Print.{printed}
 use Rattle.text.specs.Read.{readGraph, judge}
 
 unfoldable pub bytes : string.String → List ℕ
@@ -18,20 +19,40 @@ unfoldable said : string.String → Reply Counts
 unfolding bytes judge
 said s = judge (bytes s)
 
--- 01's chart
-example : readGraph (bytes "M,0,0\nM,1,5\nM,2,-\nM,3,-\nL,0,1,4\nL,1,2,3\nL,0,2,9\n")
-    ≡ answered (record {
+-- 01's chart, read and printed
+abbrev exampleText : string.String
+exampleText = "M,0,0\nM,1,5\nM,2,-\nM,3,-\nL,0,1,4\nL,1,2,3\nL,0,2,9\n"
+
+abbrev exampleGraph : Graph
+exampleGraph =
+    record {
       initial = 0 ∷ 5 ∷ absent ∷ absent ∷ [];
       edges =
           record { from = 0; to = 1; cost = 4 }
           ∷ record { from = 1; to = 2; cost = 3 }
           ∷ record { from = 0; to = 2; cost = 9 }
           ∷ [];
-    })
-unfolding bytes readGraph
-example = refl
+    }
 
-sample : said "M,0,0\nM,1,5\nM,2,-\nM,3,-\nL,0,1,4\nL,1,2,3\nL,0,2,9\n" ≡ answered (record { vertices = 4; edges = 3 })
+read-example : readGraph (bytes exampleText) ≡ answered exampleGraph
+unfolding bytes readGraph
+read-example = refl
+
+printed-example : printed exampleGraph ≡ bytes exampleText
+unfolding bytes printed
+printed-example = refl
+
+-- digits up to the limits
+printed-limits : printed (record { initial = 999999 ∷ 10 ∷ []; edges = record { from = 1; to = 0; cost = 100000 } ∷ [] })
+    ≡ bytes "M,0,999999\nM,1,10\nL,1,0,100000\n"
+unfolding bytes printed
+printed-limits = refl
+
+printed-empty : printed (record { initial = []; edges = [] }) ≡ bytes ""
+unfolding bytes printed
+printed-empty = refl
+
+sample : said exampleText ≡ answered (record { vertices = 4; edges = 3 })
 unfolding said
 sample = refl
 

@@ -20,7 +20,7 @@ unfolding linesOf
 lines-none = refl
 
 -- a text has pieces, so what stands before them is a line with its LF
-lined-cons : (p : List ℕ) (b : ℕ) (l : List ℕ) → linedFrom p (parted b l) ≡ lineOf p ∷ lined (parted b l)
+pub lined-cons : (p : List ℕ) (b : ℕ) (l : List ℕ) → linedFrom p (parted b l) ≡ lineOf p ∷ lined (parted b l)
 unfolding parted
 lined-cons p b [] = refl
 lined-cons p b (x ∷ xs) = go (eqb x b) (parted b xs)

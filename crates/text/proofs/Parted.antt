@@ -58,7 +58,7 @@ pub parted-at : (b : ℕ) (l : List ℕ) (k : ℕ) → k ≡ place b l → (k �
 parted-at b l k e h = rw (parted-cut b l (omega (arith, place-le b l)), e)
 
 -- a text has a first piece
-parted-some : (P : List (List ℕ) → Type 0) → ((p : List ℕ) (ps : List (List ℕ)) → P (p ∷ ps)) → (b : ℕ) (l : List ℕ) → P (parted b l)
+pub parted-some : (P : List (List ℕ) → Type 0) → ((p : List ℕ) (ps : List (List ℕ)) → P (p ∷ ps)) → (b : ℕ) (l : List ℕ) → P (parted b l)
 unfolding parted
 parted-some P some b [] = some [] []
 parted-some P some b (x ∷ xs) = go (eqb x b) (parted b xs)

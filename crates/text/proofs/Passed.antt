@@ -10,6 +10,7 @@ use borrow.Author.Tests.{ltb-false, leb-false, eqb-true, not-false}
 use Rattle.model.specs.Answers.{Reply, answered, refused}
 use Rattle.model.specs.Calls.{firstFault}
 use Rattle.model.proofs.Faults.{or-none}
+use Rattle.model.proofs.Replies.{answered-refused}
 use Rattle.text.specs.declared.lines.InitialCost.{InitialCost}
 use Rattle.text.specs.declared.lines.InitialCost.the-variants.{Cost}
 use Rattle.text.specs.declared.lines.Line.{Line}
@@ -64,10 +65,7 @@ within-counted k (Edge m n c) w f = record { vertices = w .vertices; edges = ome
 
 unless-answered : (o : Option ℕ) (n : ℕ) (r : Reply Counts) {z : Counts} → unlessFault o n r ≡ answered z → (o ≡ none) × (r ≡ answered z)
 unless-answered none n r e = (refl, e)
-unless-answered (some f) n r {z} e = absurd (clash e)
-  where
-    clash : _≡_ {A = Reply Counts} (refused f n) (answered z) → ⊥
-    clash e = let y : _≡_ {A = ℕ} 0 1 = cc in omega arith
+unless-answered (some f) n r {z} e = absurd (answered-refused z f n (sym e))
 
 no-fault : (n : ℕ) (k : Counts) (x : Line) (xs : List Line) {z : Counts}
     → judgeFrom n k (x ∷ xs) ≡ answered z → (firstFault (lineFaults k x) ≡ none) × (judgeFrom (n + 1) (counted k x) xs ≡ answered z)

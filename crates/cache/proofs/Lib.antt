@@ -1,0 +1,5 @@
+-- Laws that belong to no one function.
+pub mod Demand1
+pub mod Opened
+pub mod OpenedKinds
+pub mod Opening

@@ -1,0 +1,32 @@
+-- Demand 1 of opening: what a refused and an accepted opening leave of the words lent.
+-- Assumes nothing.
+use mathlib.Core.Path.{_≡_}
+use mathlib.Core.List.{List}
+use Prim.Native.Nat.{ℕ, _≤_}
+use lib.ListN.{length, getD}
+use Rattle.model.specs.Answers.{answered, refused}
+use Rattle.model.specs.Graph.{Graph, Accepted, vertexCount, edgeCount}
+use Rattle.model.specs.Calls.{opened}
+use Rattle.text.specs.Read.{readGraph}
+use Rattle.layout.specs.Layout.{needed}
+use Rattle.layout.specs.Read.{directionOf, readCache}
+use Rattle.cache.specs.Open.{AfterOpen, openCache}
+
+-- what an accepted opening of the words ws leaves: the words `left` hold the graph of the text and no tree, and "words past that are
+-- never written"
+pub record Opens (ws text : List ℕ) (d t : ℕ) (left : List ℕ) : Type 0 where
+  pub graph : Graph
+  pub read : readGraph text ≡ answered graph
+  pub accepted : Accepted graph
+  pub direction : d ≤ 1
+  pub slots : (1 ≤ t) × (t ≤ 64)
+  pub fits : needed (vertexCount graph) (edgeCount graph) t ≤ length ws
+  pub cache : readCache left ≡ opened (directionOf d) graph t
+  pub same-length : length left ≡ length ws
+  pub past : (i : ℕ) → needed (vertexCount graph) (edgeCount graph) t ≤ i → getD left i 0 ≡ getD ws i 0
+
+-- "hold, after any refused call, what they held before it"
+abbrev pub Demand1 : Type 0
+Demand1 =
+    ((ws text : List ℕ) (d t n line : ℕ) → (openCache ws text d t) .reply ≡ refused n line → (openCache ws text d t) .words ≡ ws)
+    × ((ws text : List ℕ) (d t : ℕ) → (openCache ws text d t) .reply ≡ answered tt → Opens ws text d t ((openCache ws text d t) .words))

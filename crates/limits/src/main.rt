@@ -1,0 +1,270 @@
+// 01's limits, on slices that are long enough. Each line is one opening: vertices, edges, initial cost, cost, direction, slots and
+// words lent; then the answer, how many words it changed, and a sum of all words, those past the lent ones too.
+use model::OpenAnswer;
+use model::Refusal;
+ghost use mathlib.Core.Path.{_≡_};
+ghost use Prim.Native.Nat.{_<_, _≤_};
+ghost use lib.ListN.{length};
+
+// What a text is made of.
+struct Sample {
+    vertices: u32,
+    edges: u32,
+    initial: u32,
+    cost: u32,
+}
+
+fn main() {
+    let mut text = [0u8; 60000];
+    let most = made(1024, 2048, 999999, 999999);
+    let n = put_text(&mut text, most);
+    try_open(&text[0..n], most, 0, 1, 21518);
+    try_open(&text[0..n], most, 1, 1, 21518);
+    try_open(&text[0..n], most, 0, 1, 21517);
+    try_open(&text[0..n], most, 1, 1, 21517);
+    try_open(&text[0..n], most, 1, 1, 22000);
+    try_sample(made(1025, 0, 0, 0), 0, 1, 22000);
+    try_sample(made(1025, 2049, 0, 0), 1, 1, 22000);
+    try_sample(made(1024, 2049, 0, 0), 0, 1, 22000);
+    try_sample(made(1024, 2049, 0, 0), 1, 1, 22000);
+    try_sample(made(3, 4, 1000000, 0), 0, 1, 22000);
+    try_sample(made(3, 4, 0, 1000000), 1, 1, 22000);
+    try_slots(made(3, 4, 999999, 999999));
+    try_slots(made(0, 0, 0, 0));
+}
+
+fn made(vertices: u32, edges: u32, initial: u32, cost: u32) -> Sample {
+    Sample {
+        vertices,
+        edges,
+        initial,
+        cost,
+    }
+}
+
+// Slots and direction at their limits, and lengths about what 64 slots need.
+fn try_slots(s: Sample) {
+    try_sample(s, 0, 0, 22000);
+    try_sample(s, 0, 1, 22000);
+    try_sample(s, 1, 64, 22000);
+    try_sample(s, 1, 65, 22000);
+    try_sample(s, 2, 1, 22000);
+    try_sample(s, 4294967295, 1, 22000);
+    try_sample(s, 0, 64, 2012);
+    try_sample(s, 0, 64, 2011);
+    try_sample(s, 1, 64, 518);
+    try_sample(s, 1, 64, 517);
+    try_sample(s, 0, 1, 0);
+}
+
+fn try_sample(s: Sample, direction: u32, slots: usize, lent: usize)
+    requires { ⌜ lent ≤ 22000 ⌝ }
+{
+    let mut text = [0u8; 60000];
+    let n = put_text(&mut text, s);
+    try_open(&text[0..n], s, direction, slots, lent);
+}
+
+fn try_open(text: &[u8], s: Sample, direction: u32, slots: usize, lent: usize)
+    requires { ⌜ lent ≤ 22000 ⌝ }
+{
+    print_sample(s);
+    print(direction as u64);
+    print(slots as u64);
+    print(lent as u64);
+    let mut words = [7u32; 24000];
+    open_in(&mut words, text, direction, slots, lent);
+}
+
+// The first of the words are lent.
+fn open_in(words: &mut [u32], text: &[u8], direction: u32, slots: usize, lent: usize)
+    requires { ⌜ lent ≤ length (now words) ⌝ }
+{
+    let answer = cache::open(&mut words[0..lent], text, direction, slots);
+    print_answer(answer);
+    print(changed(words) as u64);
+    io::print_decimal(1, sum(words) as u64);
+    io::write_all(1, b"\n");
+}
+
+fn print_sample(s: Sample) {
+    print(s.vertices as u64);
+    print(s.edges as u64);
+    print(s.initial as u64);
+    print(s.cost as u64);
+}
+
+fn print(x: u64) {
+    io::print_decimal(1, x);
+    io::write_all(1, b" ");
+}
+
+fn print_answer(answer: OpenAnswer) {
+    match answer {
+        OpenAnswer::Opened => {
+            io::write_all(1, b"opened ");
+        }
+        OpenAnswer::Refused { refusal, line } => {
+            io::write_all(1, b"refused ");
+            print(number(refusal));
+            print(line as u64);
+        }
+    }
+}
+
+// 01's numbers; opening gives 1 to 5.
+fn number(refusal: Refusal) -> u64 {
+    match refusal {
+        Refusal::Malformed => 1,
+        Refusal::OutOfOrder => 2,
+        Refusal::NoSuchVertex => 3,
+        Refusal::OverLimit => 4,
+        Refusal::ShortCache => 5,
+        _ => 0,
+    }
+}
+
+// How many words stand before the last run of 7.
+fn changed(words: &[u32]) -> usize {
+    let mut n = words.len();
+    while 0 < n {
+        if words[n - 1] != 7 {
+            return n;
+        }
+        n -= 1;
+    }
+    n
+}
+
+fn sum(words: &[u32]) -> usize
+    ensures { λ r. ⌜ r < 4294967291 ⌝ }
+{
+    let mut sum: usize = 0;
+    let mut i = 0;
+    while i < words.len() {
+        sum = (sum * 31 + wide(words[i])) % 4294967291;
+        i += 1;
+    }
+    sum
+}
+
+fn wide(x: u32) -> usize
+    ensures { λ r. ⌜ (r ≡ x) × (r < 4294967296) ⌝ }
+{
+    x as usize
+}
+
+// ---- the text
+
+fn put_text(text: &mut [u8], s: Sample) -> usize
+    ensures { λ r. ⌜ r ≤ length (now (text .exit)) ⌝ }
+{
+    let at = put_vertices(text, s);
+    put_edges(text, at, s)
+}
+
+fn put_vertices(text: &mut [u8], s: Sample) -> usize
+    ensures { λ r. ⌜ r ≤ length (now (text .entry)) ⌝ }
+{
+    let count = wide(s.vertices);
+    let initial = wide(s.initial);
+    let mut at = 0;
+    let mut v = 0;
+    while v < count {
+        at = put_vertex(text, at, v, initial);
+        v += 1;
+    }
+    at
+}
+
+fn put_vertex(text: &mut [u8], start: usize, v: usize, initial: usize) -> usize
+    requires { ⌜ start ≤ length (now text) ⌝ }
+    ensures { λ r. ⌜ r ≤ length (now (text .entry)) ⌝ }
+{
+    let mut at = put(text, start, b'M');
+    at = put_field(text, at, v);
+    at = put_field(text, at, initial);
+    put(text, at, b'\n')
+}
+
+// Edge e leads from vertex 7e to vertex 3e, counted round.
+fn put_edges(text: &mut [u8], start: usize, s: Sample) -> usize
+    requires { ⌜ start ≤ length (now text) ⌝ }
+    ensures { λ r. ⌜ r ≤ length (now (text .entry)) ⌝ }
+{
+    let vertices = wide(s.vertices);
+    let count = wide(s.edges);
+    let cost = wide(s.cost);
+    if vertices == 0 {
+        return start;
+    }
+    let mut at = start;
+    let mut e = 0;
+    while e < count {
+        at = put_edge(text, at, 7 * e % vertices, 3 * e % vertices, cost);
+        e += 1;
+    }
+    at
+}
+
+fn put_edge(text: &mut [u8], start: usize, from: usize, to: usize, cost: usize) -> usize
+    requires { ⌜ start ≤ length (now text) ⌝ }
+    ensures { λ r. ⌜ r ≤ length (now (text .entry)) ⌝ }
+{
+    let mut at = put(text, start, b'L');
+    at = put_field(text, at, from);
+    at = put_field(text, at, to);
+    at = put_field(text, at, cost);
+    put(text, at, b'\n')
+}
+
+fn put_field(text: &mut [u8], at: usize, n: usize) -> usize
+    requires { ⌜ at ≤ length (now text) ⌝ }
+    ensures { λ r. ⌜ r ≤ length (now (text .entry)) ⌝ }
+{
+    let behind = put(text, at, b',');
+    put_number(text, behind, n)
+}
+
+// At most seven digits.
+fn put_number(text: &mut [u8], start: usize, n: usize) -> usize
+    requires { ⌜ start ≤ length (now text) ⌝ }
+    ensures { λ r. ⌜ r ≤ length (now (text .entry)) ⌝ }
+{
+    let mut at = start;
+    let mut unit: usize = 1000000;
+    while 0 < unit {
+        at = put_digit(text, at, n, unit);
+        unit = unit / 10;
+    }
+    at
+}
+
+// No zero in front of a number.
+fn put_digit(text: &mut [u8], at: usize, n: usize, unit: usize) -> usize
+    requires { ⌜ (at ≤ length (now text)) × (0 < unit) ⌝ }
+    ensures { λ r. ⌜ r ≤ length (now (text .entry)) ⌝ }
+{
+    if unit <= n {
+        return put(text, at, digit(n / unit));
+    }
+    if unit == 1 {
+        return put(text, at, b'0');
+    }
+    at
+}
+
+fn digit(n: usize) -> u8 {
+    (48 + n % 10) as u8
+}
+
+fn put(text: &mut [u8], at: usize, b: u8) -> usize
+    requires { ⌜ at ≤ length (now text) ⌝ }
+    ensures { λ r. ⌜ r ≤ length (now (text .entry)) ⌝ }
+{
+    if at < text.len() {
+        text[at] = b;
+        return at + 1;
+    }
+    at
+}
