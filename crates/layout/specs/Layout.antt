@@ -20,6 +20,10 @@ initialAt = 5
 abbrev pub edgesAt : ℕ → ℕ
 edgesAt m = 5 + m
 
+-- an edge's three words
+abbrev pub edgeAt : ℕ → ℕ → ℕ
+edgeAt m e = edgesAt m + 3 * e
+
 abbrev pub placesAt : ℕ → ℕ → ℕ
 placesAt m l = 5 + m + 3 * l
 
@@ -34,7 +38,7 @@ pub record EdgeWord (n m e k : ℕ) : Type 0 where
   pub vertices : m ≤ 1024
   pub edge : e < 2048
   pub word : k < 3
-  pub within : edgesAt m + 3 * e + k < n
+  pub within : edgeAt m e + k < n
 
 -- a tree's words, counted from its own start: "start motif, nodes used, queue length; 1 + L nodes of motif, cost, parent, link;
 -- 1 + L queue words; M closed words"

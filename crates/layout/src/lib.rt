@@ -3,7 +3,7 @@
 ghost use mathlib.Core.Path.{_≡_};
 ghost use Prim.Native.Nat.{_+_, _*_, _<_, _≤_};
 ghost use lib.ListN.{length, getD};
-ghost use Rattle.layout.specs.Layout.{headerWords, initialAt, edgesAt, placesAt, numbersAt, slotsAt, treeWords, needed, Sized, EdgeWord};
+ghost use Rattle.layout.specs.Layout.{headerWords, initialAt, edgesAt, edgeAt, placesAt, numbersAt, slotsAt, treeWords, needed, Sized, EdgeWord};
 
 // The places of a header's words.
 pub const DIRECTION: usize = 0;
@@ -84,12 +84,19 @@ pub fn initial_cost(words: &[u32], vertex: usize) -> u32
     words[INITIAL_AT + vertex]
 }
 
+pub fn edge_at(vertices: usize, edge: usize) -> usize
+    requires { ⌜ (vertices ≤ 1024) × (edge < 2048) ⌝ }
+    ensures { λ r. ⌜ r ≡ edgeAt vertices edge ⌝ }
+{
+    edges_at(vertices) + 3 * edge
+}
+
 // A word of an edge, by its place among the edge's words.
 pub fn edge_word(words: &[u32], vertices: usize, edge: usize, place: usize) -> u32
     requires { ⌜ EdgeWord (length (now words)) vertices edge place ⌝ }
-    ensures { λ r. ⌜ r ≡ getD (now (words .entry)) (edgesAt vertices + 3 * edge + place) 0 ⌝ }
+    ensures { λ r. ⌜ r ≡ getD (now (words .entry)) (edgeAt vertices edge + place) 0 ⌝ }
 {
-    words[edges_at(vertices) + 3 * edge + place]
+    words[edge_at(vertices, edge) + place]
 }
 
 // Where the edges of a vertex begin among the edge numbers; those of the last vertex end at the place past it.
@@ -107,7 +114,8 @@ pub fn edge_number(words: &[u32], vertices: usize, edges: usize, place: usize) -
     wide(words[numbers_at(vertices, edges) + place])
 }
 
-fn wide(x: u32) -> usize
+// A word as a place or a count.
+pub fn wide(x: u32) -> usize
     ensures { λ r. ⌜ r ≡ x ⌝ }
 {
     x as usize

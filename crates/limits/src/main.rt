@@ -1,5 +1,6 @@
 // 01's limits, on slices that are long enough. Each line is one opening: vertices, edges, initial cost, cost, direction, slots and
 // words lent; then the answer, how many words it changed, and a sum of all words, those past the lent ones too.
+use layout::wide;
 use model::OpenAnswer;
 use model::Refusal;
 ghost use mathlib.Core.Path.{_≡_};
@@ -146,12 +147,6 @@ fn sum(words: &[u32]) -> usize
         i += 1;
     }
     sum
-}
-
-fn wide(x: u32) -> usize
-    ensures { λ r. ⌜ (r ≡ x) × (r < 4294967296) ⌝ }
-{
-    x as usize
 }
 
 // ---- the text

@@ -20,10 +20,10 @@ unfolding bytes judge
 said s = judge (bytes s)
 
 -- 01's chart, read and printed
-abbrev exampleText : string.String
+abbrev pub exampleText : string.String
 exampleText = "M,0,0\nM,1,5\nM,2,-\nM,3,-\nL,0,1,4\nL,1,2,3\nL,0,2,9\n"
 
-abbrev exampleGraph : Graph
+abbrev pub exampleGraph : Graph
 exampleGraph =
     record {
       initial = 0 ∷ 5 ∷ absent ∷ absent ∷ [];

@@ -1,4 +1,5 @@
 -- `limits::changed` meets its contract. `n` stays within the words and falls.
+-- Assumes nothing.
 use Prim.Native.Nat.{_≤_}
 use borrow.Author.Needs.{needs}
 use lib.ListN.{length}

@@ -1,4 +1,5 @@
 -- `limits::put_number` meets its contract. The place stays within the text, and the unit falls.
+-- Assumes nothing.
 use Prim.Native.Nat.{_≤_}
 use mathlib.Core.Path.{_≡_}
 use borrow.Author.Needs.{needs}

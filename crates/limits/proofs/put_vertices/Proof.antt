@@ -1,4 +1,5 @@
 -- `limits::put_vertices` meets its contract. The place stays within the text.
+-- Assumes nothing.
 use Prim.Native.Nat.{_≤_, _-_}
 use mathlib.Core.Path.{_≡_}
 use borrow.Author.Needs.{needs}

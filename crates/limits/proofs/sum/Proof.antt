@@ -1,5 +1,7 @@
 -- `limits::sum` meets its contract. The sum stays below the number that it is divided by.
+-- Assumes nothing.
 use Prim.Native.Nat.{_≤_, _<_, _-_}
+use native.Mathlib.Omega.{arith}
 use borrow.Author.Needs.{needs}
 use lib.ListN.{length}
 use Rattle.limits.proofs.sum.Statement.{statement}
@@ -10,6 +12,9 @@ Inv-loop words sum₀ i₀ sum i = (i ≤ length words) × (sum < 4294967291)
 
 abbrev μ-loop : tie.MeasureT-loop
 μ-loop words sum₀ i₀ sum i = length words - i
+
+add-sum : tie.Need-add-sum Inv-loop μ-loop
+add-sum c = omega (arith, c .before .shared-slice-known2 .given (c .before .before .before .loop .i))
 
 pub sum-spec : {M : Type 1} → statement M
 sum-spec =
@@ -22,7 +27,7 @@ sum-spec =
     (λ c. search needs)
     (λ c. search needs)
     (λ c κs. search needs)
-    (λ c. search needs)
+    add-sum
     (λ c. search needs)
     (λ c. search needs)
     (λ c. search needs)
