@@ -22,7 +22,7 @@ use Rattle.text.proofs.Accepted.{judged-accepted, read-is}
 use Rattle.layout.specs.Layout.{needed}
 use Rattle.layout.specs.Words.{openedWords}
 use Rattle.layout.specs.Read.{directionOf}
-use Rattle.cache.specs.Open.{AfterOpen, measureFaults, openIf, openRead, openBy, openCache}
+use Rattle.cache.specs.Open.{measureFaults, openIf, openRead, openBy, openCache}
 use Rattle.cache.specs.Demand1.{Opens, Demand1}
 use Rattle.cache.proofs.Opened.{opened-length, read-opened}
 

@@ -2,10 +2,10 @@
 -- Assumes nothing.
 use mathlib.Core.Path.{_≡_, refl, sym, ap, ap₂, _∙_}
 use mathlib.Core.List.{List, [], _∷_, _++_, append-assoc}
-use Prim.Native.Nat.{ℕ, zero, suc, _+_, _-_, _*_, _<_, _≤_}
+use Prim.Native.Nat.{ℕ, zero, suc, _+_, _-_, _*_, _≤_}
 use native.Mathlib.Omega.{arith}
-use lib.ListN.{length, getD, take, drop, replicate, length-append, length-replicate}
-use lib.Seq.{take-at, drop-at, drop-drop, drop-append-add}
+use lib.ListN.{length, take, drop, replicate, length-append, length-replicate}
+use lib.Seq.{take-at, drop-drop, drop-append-add}
 use Rattle.model.specs.Answers.{answered}
 use Rattle.model.specs.Graph.{Graph, Direction, forward, backward, Domain, domain, Accepted, vertexCount, edgeCount, edgeNumbers}
 use Rattle.model.specs.Calls.{opened, written}
@@ -17,7 +17,6 @@ use Rattle.layout.specs.Layout.{headerWords, slotsAt, treeWords, needed}
 use Rattle.layout.specs.Words.{directionWord, headerOf, edgeWords, firstPlaces, graphWords, openedWords}
 use Rattle.layout.specs.Read.{directionOf, graphIn, readCache}
 use Rattle.layout.proofs.Edges.{graph-in}
-use Rattle.graph.specs.Write.{graphWritten}
 use Rattle.graph.proofs.Lengths.{graph-words-length}
 use Rattle.graph.proofs.Written.{domain-counts}
 

@@ -10,7 +10,7 @@ use Rattle.model.specs.Calls.{opened}
 use Rattle.text.specs.Read.{readGraph}
 use Rattle.layout.specs.Layout.{needed}
 use Rattle.layout.specs.Read.{directionOf, readCache}
-use Rattle.cache.specs.Open.{AfterOpen, openCache}
+use Rattle.cache.specs.Open.{openCache}
 
 -- what an accepted opening of the words ws leaves: the words `left` hold the graph of the text and no tree, and "words past that are
 -- never written"

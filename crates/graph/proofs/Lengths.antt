@@ -1,13 +1,13 @@
 -- How many words a graph has.
 -- Assumes nothing.
 use mathlib.Core.Path.{_≡_, ap, _∙_}
-use mathlib.Core.List.{List, _++_}
+use mathlib.Core.List.{_++_}
 use Prim.Native.Nat.{ℕ, _+_, _*_, _<_}
 use native.Mathlib.Omega.{arith}
 use lib.ListN.{length, getD, length-append, length-map}
 use Rattle.model.specs.Lists.{numbers}
 use Rattle.model.specs.Graph.{Graph, Direction, forward, backward, Domain, domain, Accepted, vertexCount, edgeCount, edgesInUse, from, to, edgeNumbers}
-use Rattle.model.proofs.Lists.{up-length, numbers-mem, joined-mem, those-mem}
+use Rattle.model.proofs.Lists.{up-length, numbers-mem}
 use Rattle.model.proofs.Reversed.{accepted-domain}
 use Rattle.layout.specs.Words.{edgeWords, firstPlace, firstPlaces, graphWords}
 use Rattle.layout.proofs.Edges.{edge-words-length}

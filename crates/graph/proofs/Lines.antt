@@ -4,8 +4,8 @@ use mathlib.Core.Path.{_≡_, refl, sym, ap, ap₂, _∙_}
 use mathlib.Core.List.{List, [], _∷_, _++_, map, append-assoc, map-id}
 use Prim.Native.Nat.{ℕ, suc, _+_, _*_, _<_, _≤_}
 use native.Mathlib.Omega.{arith}
-use lib.ListN.{length, set, take, drop, length-append, length-map, length-set}
-use lib.Seq.{set-comm, sets, sets-eq, length-sets}
+use lib.ListN.{length, set, take, drop, length-append, length-map}
+use lib.Seq.{set-comm, sets, sets-eq}
 use Rattle.model.specs.Answers.{answered}
 use Rattle.model.specs.Graph.{Edge, Direction, forward, backward, domain}
 use Rattle.text.specs.declared.counts.Counts.{Counts}

@@ -1,7 +1,7 @@
 -- The words needed fit a machine's number. Assumes nothing.
-use Prim.Native.Nat.{ℕ, _+_, _*_, _<_, _≤_}
+use Prim.Native.Nat.{ℕ, _*_, _≤_}
 use native.Mathlib.Omega.{arith}
-use native.Mathlib.Nat.{mul-le-mul-right, mul-le-mul-left}
+use native.Mathlib.Nat.{mul-le-mul-left}
 use Rattle.layout.specs.Layout.{treeWords, Sized}
 
 pub slots-fit : {m l t : ℕ} → Sized m l → t ≤ 64 → t * treeWords m l ≤ 64 * 11272

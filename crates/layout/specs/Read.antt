@@ -2,7 +2,7 @@
 -- Assumes nothing.
 use mathlib.Core.List.{List, [], _∷_, map}
 use Prim.Native.Nat.{ℕ, zero, suc}
-use lib.ListN.{getD, take, drop}
+use lib.ListN.{getD, drop}
 use Rattle.model.specs.Lists.{numbers, those, mem}
 use Rattle.model.specs.Graph.{Edge, Graph, Direction, forward, backward}
 use Rattle.model.specs.Tree.{Node, Tree}

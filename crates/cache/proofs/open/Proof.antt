@@ -1,11 +1,8 @@
 -- `open` meets its contract.
 -- Assumes nothing.
 use borrow.Author.Needs.{needs}
-use native.Mathlib.Omega.{arith}
-use mathlib.Core.Path.{_≡_, sym, ap, _∙_}
-use mathlib.Core.List.{List}
+use mathlib.Core.Path.{sym, ap, _∙_}
 use Rattle.model.specs.declared.OpenAnswer.{OpenAnswer}
-use Rattle.text.specs.declared.counts.Judged.{Judged}
 use Rattle.text.specs.Read.{judgedReply}
 use Rattle.cache.specs.Open.{afterOpen}
 use Rattle.cache.proofs.Opening.{open-direction, open-no-slot, open-many-slots, open-judged}

@@ -2,8 +2,7 @@
 -- Assumes nothing.
 use borrow.Author.Needs.{needs}
 use native.Mathlib.Omega.{arith}
-use mathlib.Core.Path.{_≡_, ap, _∙_}
-use mathlib.Core.List.{List}
+use mathlib.Core.Path.{ap, _∙_}
 use Rattle.model.specs.declared.OpenAnswer.{OpenAnswer}
 use Rattle.cache.specs.Open.{afterOpen}
 use Rattle.cache.proofs.Opening.{judged-sized, open-short, open-fits}
