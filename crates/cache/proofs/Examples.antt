@@ -91,6 +91,10 @@ opens-empty : openCache (replicate 15 7) [] 1 1 ≡ record { reply = answered tt
 unfolding openCache
 opens-empty = refl
 
+empty-short : openCache (replicate 13 7) [] 0 1 ≡ refusedWith 13 5 0
+unfolding openCache refusedWith
+empty-short = refl
+
 -- ---- reading
 
 reads-forward : readCache (lent 55 0 1 .words) ≡ opened forward exampleGraph 1

@@ -11,6 +11,8 @@ use Rattle.model.specs.Graph.{Graph, Direction, forward, backward, Domain, doma
 use Rattle.layout.specs.Layout.{initialAt, edgesAt, placesAt, numbersAt, slotsAt, treeWords}
 use Rattle.layout.specs.Words.{headerOf, edgeWords, firstPlace, firstPlaces, openedWords}
 use Rattle.layout.proofs.Edges.{edge-words-length, from-word, to-word, cost-word}
+use Rattle.graph.proofs.Filled.{map-up-at}
+use Rattle.graph.proofs.Lines.{held-initial}
 use Rattle.graph.proofs.Lengths.{first-places-length, edge-numbers-length}
 use Rattle.graph.proofs.Written.{domain-counts}
 use Rattle.cache.proofs.Opened.{front, front-length, opened-split, opened-graph}
@@ -19,19 +21,6 @@ use Rattle.cache.proofs.Opened.{front, front-length, opened-split, open
 word-behind : (xs ys zs : List ℕ) (n i : ℕ) → length xs ≡ n → i < length ys → getD (xs ++ (ys ++ zs)) (n + i) 0 ≡ getD ys i 0
 word-behind xs ys zs n i e h =
     ap (λ (k : ℕ). getD (xs ++ (ys ++ zs)) (k + i) 0) (sym e) ∙ getD-append-add xs (ys ++ zs) i 0 ∙ List·getD-append ys zs 0 i h
-
-mapped-up : (f : ℕ → ℕ) (k n j : ℕ) → j < k → getD (map f (upFrom k n)) j 0 ≡ f (n + j)
-mapped-up f zero n j h = absurd (omega arith)
-mapped-up f (suc k) n zero h = ap f (omega arith)
-mapped-up f (suc k) n (suc j) h = mapped-up f k (suc n) j (omega arith) ∙ ap f (omega arith)
-
-mapped-number : (f : ℕ → ℕ) (n v : ℕ) → v < n → getD (map f (numbers n)) v 0 ≡ f v
-mapped-number f n v h = mapped-up f n 0 v h ∙ ap f (omega arith)
-
-domain-initial : (dir : Direction) (g : Graph) → domain dir g .graph .initial ≡ g .initial
-unfolding domain
-domain-initial forward g = refl
-domain-initial backward g = refl
 
 module _ (dir : Direction) (g : Graph) (t : ℕ) (rest : List ℕ) where
   abbrev m : ℕ
@@ -58,12 +47,12 @@ module _ (dir : Direction) (g : Graph) (t : ℕ) (rest : List ℕ) where
   unfolding openedWords
   apart = simp append-assoc
 
-  -- initial costs are as charted, in both directions
+  -- initial costs are as in the text, in both directions
   pub initial-word : (v : ℕ) → v < m → getD ws (initialAt + v) 0 ≡ getD (g .initial) v 0
   initial-word v h =
       ap (λ (x : List ℕ). getD x (initialAt + v) 0) apart
       ∙ word-behind (headerOf dir m l t) (d .graph .initial) _ 5 v refl (omega (arith, domain-counts dir g .0))
-      ∙ ap (λ (x : List ℕ). getD x v 0) (domain-initial dir g)
+      ∙ ap (λ (x : List ℕ). getD x v 0) (held-initial dir g)
 
   pub from-edge : (e : ℕ) → e < l → getD ws (edgesAt m + 3 * e) 0 ≡ from (d .graph) e
   from-edge e h = sym (from-word m l ws e h) ∙ ap (λ (x : Graph). from x e) (opened-graph dir g t rest)
@@ -75,11 +64,11 @@ module _ (dir : Direction) (g : Graph) (t : ℕ) (rest : List ℕ) where
   cost-edge e h = sym (cost-word m l ws e h) ∙ ap (λ (x : Graph). cost x e) (opened-graph dir g t rest)
 
   -- the words before the first places
-  abbrev charted : List ℕ
-  charted = headerOf dir m l t ++ (d .graph .initial ++ edgeWords (d .graph .edges))
+  abbrev edged : List ℕ
+  edged = headerOf dir m l t ++ (d .graph .initial ++ edgeWords (d .graph .edges))
 
-  charted-length : length charted ≡ placesAt m l
-  charted-length =
+  edged-length : length edged ≡ placesAt m l
+  edged-length =
       omega (
         arith,
         length-append (d .graph .initial) (edgeWords (d .graph .edges)),
@@ -87,22 +76,24 @@ module _ (dir : Direction) (g : Graph) (t : ℕ) (rest : List ℕ) where
         domain-counts dir g,
       )
 
-  split : ws ≡ charted ++ (firstPlaces d ++ (edgeNumbers d ++ (zeros ++ rest)))
+  split : ws ≡ edged ++ (firstPlaces d ++ (edgeNumbers d ++ (zeros ++ rest)))
   split = apart ∙ simp append-assoc
 
   pub place-word : (v : ℕ) → v ≤ m → getD ws (placesAt m l + v) 0 ≡ firstPlace d v
   unfolding firstPlaces
   place-word v h =
+      let place : 0 + v ≡ v = omega arith in
       ap (λ (x : List ℕ). getD x (placesAt m l + v) 0) split
-      ∙ word-behind charted (firstPlaces d) (edgeNumbers d ++ (zeros ++ rest)) (placesAt m l) v charted-length
+      ∙ word-behind edged (firstPlaces d) (edgeNumbers d ++ (zeros ++ rest)) (placesAt m l) v edged-length
       (omega (arith, first-places-length d, domain-counts dir g))
-      ∙ mapped-number (firstPlace d) (vertexCount (d .graph) + 1) v (omega (arith, domain-counts dir g))
+      ∙ map-up-at (firstPlace d) (vertexCount (d .graph) + 1) 0 v (omega (arith, domain-counts dir g))
+      ∙ ap (firstPlace d) place
 
   pub number-word : Accepted g → (i : ℕ) → i < l → getD ws (numbersAt m l + i) 0 ≡ getD (edgeNumbers d) i 0
   number-word ok i h =
-      ap (λ (x : List ℕ). getD x (numbersAt m l + i) 0) (split ∙ sym (append-assoc charted (firstPlaces d) (edgeNumbers d ++ (zeros ++ rest))))
-      ∙ word-behind (charted ++ firstPlaces d) (edgeNumbers d) (zeros ++ rest) (numbersAt m l) i
-      (omega (arith, length-append charted (firstPlaces d), charted-length, first-places-length d, domain-counts dir g))
+      ap (λ (x : List ℕ). getD x (numbersAt m l + i) 0) (split ∙ sym (append-assoc edged (firstPlaces d) (edgeNumbers d ++ (zeros ++ rest))))
+      ∙ word-behind (edged ++ firstPlaces d) (edgeNumbers d) (zeros ++ rest) (numbersAt m l) i
+      (omega (arith, length-append edged (firstPlaces d), edged-length, first-places-length d, domain-counts dir g))
       (omega (arith, edge-numbers-length dir g ok))
 
   pub slot-word : Accepted g → (i : ℕ) → i < t * treeWords m l → getD ws (slotsAt m l + i) 0 ≡ 0

@@ -7,7 +7,7 @@ use native.Mathlib.Omega.{arith}
 use lib.ListN.{length, set, take, drop, length-append, length-map}
 use lib.Seq.{set-comm, sets, sets-eq}
 use Rattle.model.specs.Answers.{answered}
-use Rattle.model.specs.Graph.{Edge, Direction, forward, backward, domain}
+use Rattle.model.specs.Graph.{Edge, Graph, Direction, forward, backward, domain}
 use Rattle.text.specs.declared.counts.Counts.{Counts}
 use Rattle.text.specs.declared.lines.Line.{Line}
 use Rattle.text.specs.declared.lines.Line.the-variants as line
@@ -85,10 +85,10 @@ unfolding domain graphOf
 held-edges forward text = map-id (edgesOf (linesOf text))
 held-edges backward text = refl
 
-held-initial : (dir : Direction) (text : List ℕ) → initialsOf (linesOf text) ≡ domain dir (graphOf text) .graph .initial
-unfolding domain graphOf
-held-initial forward text = refl
-held-initial backward text = refl
+pub held-initial : (dir : Direction) (g : Graph) → domain dir g .graph .initial ≡ g .initial
+unfolding domain
+held-initial forward g = refl
+held-initial backward g = refl
 
 -- the header stays, and so do the words behind the edges
 pub text-written : (dir : Direction) (text : List ℕ) (z : Counts) (ws : List ℕ) → CanWrite ws text z
@@ -96,14 +96,14 @@ pub text-written : (dir : Direction) (text : List ℕ) (z : Counts) (ws : List �
     ≡ take headerWords ws
     ++ (domain dir (graphOf text) .graph .initial
     ++ (edgeWords (domain dir (graphOf text) .graph .edges) ++ drop (placesAt (z .vertices) (z .edges)) ws))
-unfolding judge
+unfolding judge graphOf
 text-written dir text z ws can =
     lines-written dir 1 noCounts z (linesOf text) ws (can .judged)
     ∙ ap (λ (i : ℕ). sets (sets ws headerWords us) i vs) (omega (arith, counts))
     ∙ stored ws headerWords us vs (placesAt (z .vertices) (z .edges)) (omega (arith, counts, edge-words-length es, length-map (edgesOf (linesOf text)) (held dir)))
     (omega (arith, can .fits))
     ∙ ap₂ (λ (is : List ℕ) (ds : List Edge). take headerWords ws ++ (is ++ (edgeWords ds ++ drop (placesAt (z .vertices) (z .edges)) ws)))
-    (held-initial dir text) (held-edges dir text)
+    initials (held-edges dir text)
   where
     us : List ℕ
     us = initialsOf (linesOf text)
@@ -113,6 +113,9 @@ text-written dir text z ws can =
 
     vs : List ℕ
     vs = edgeWords es
+
+    initials : us ≡ domain dir (graphOf text) .graph .initial
+    initials = sym (held-initial dir (graphOf text))
 
     counts : (0 + length us ≡ z .vertices) × (0 + length (edgesOf (linesOf text)) ≡ z .edges)
     counts = counts-from 1 noCounts (linesOf text) (can .judged)

@@ -5,7 +5,7 @@ use crate::lines::Line;
 use crate::lines::read_line;
 use model::Refusal;
 ghost use mathlib.Core.Path.{_≡_};
-ghost use Prim.Native.Nat.{_≤_};
+ghost use Prim.Native.Nat.{_+_, _<_, _≤_};
 ghost use Rattle.model.specs.Calls.{firstFault};
 ghost use Rattle.text.specs.Read.{lineFaults, checkFault, counted, judge, judgedReply};
 
@@ -118,21 +118,26 @@ pub fn judge(text: &[u8]) -> Judged
         let rest = &text[at..];
         let k = find(rest, b'\n');
         if k == rest.len() {
-            return Judged::Fault {
-                refusal: Refusal::Malformed,
-                line: above + 1,
-            };
+            return fault_below(above, Refusal::Malformed);
         }
         let form = read_line(&rest[0..k]);
         if let Check::Fault(refusal) = counts.check(form) {
-            return Judged::Fault {
-                refusal,
-                line: above + 1,
-            };
+            return fault_below(above, refusal);
         }
         counts = counts.count(form);
         at = at + k + 1;
         above += 1;
     }
     Judged::Sizes(counts)
+}
+
+// A fault in the line that has `above` lines above it.
+fn fault_below(above: usize, refusal: Refusal) -> Judged
+    requires { ⌜ above < 18446744073709551615 ⌝ }
+    ensures { λ r. ⌜ r ≡ Judged.Fault refusal (above + 1) ⌝ }
+{
+    Judged::Fault {
+        refusal,
+        line: above + 1,
+    }
 }

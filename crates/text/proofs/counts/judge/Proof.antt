@@ -5,7 +5,7 @@ use Prim.Native.Nat.{_-_, _≤_}
 use native.Mathlib.Omega.{arith}
 use borrow.Author.Needs.{needs}
 use lib.ListN.{length}
-use Rattle.text.specs.Read.{checkFault}
+use Rattle.text.specs.Read.{checkFault, judgedReply}
 use Rattle.text.proofs.Judged.{Judging, judging-first, judged-last, judged-unended, judged-fault, judging-next}
 use Rattle.text.proofs.LineCuts.{place-within}
 use Rattle.text.proofs.counts.judge.Statement.{statement}
@@ -24,15 +24,21 @@ found-within : (c : tie.After-find Inv-loop μ-loop) → c .find .result ≤ len
 found-within c = place-within (c .before .before .before .before .before .args .text .now) (c .before .before .before .loop .at) (c .find .ensures)
 
 returns : tie.Need-returns Inv-loop μ-loop
-returns c = judged-unended (c .before .before .before .before .loop .inv) (c .before .find .ensures) (c .before .before .before .loop-test .taken) (c .if1 .taken)
+returns c =
+    let found = c .before .before in
+    ap judgedReply (c .fault-below .ensures)
+    ∙ judged-unended (found .before .before .before .loop .inv) (found .find .ensures) (found .before .before .loop-test .taken) (c .before .if1 .taken)
 
 part-read-line-end : tie.Need-part-read-line-end Inv-loop μ-loop
 part-read-line-end c = omega (arith, found-within (c .before))
 
 returns-2 : tie.Need-returns-2 Inv-loop μ-loop
 returns-2 c =
-    judged-fault (c .before .before .before .before .before .before .before .before .before .before .loop .inv) (c .before .before .before .before .before .before .before .find .ensures) (c .before .before .before .before .before .before .if1 .left) (c .before .before .before .before .read-line .ensures)
-    (ap checkFault (sym (c .before .refusal .given .1)) ∙ c .before .before .before .check .ensures)
+    let checked = c .before .before .before .before in
+    let found = checked .before .before .before .before in
+    ap judgedReply (c .fault-below2 .ensures)
+    ∙ judged-fault (found .before .before .before .loop .inv) (found .find .ensures) (checked .before .before .before .if1 .left) (checked .before .read-line .ensures)
+    (ap checkFault (sym (c .before .before .refusal .given .1)) ∙ checked .check .ensures)
 
 add-at : tie.Need-add-at Inv-loop μ-loop
 add-at c = omega (arith, found-within (c .before .before .before .before .before .before .before))
@@ -42,8 +48,10 @@ add-at-2 c = omega (arith, found-within (c .before .before .before .before .befo
 
 loop-again : tie.Need-loop-again Inv-loop μ-loop
 loop-again c =
-    judging-next (c .before .before .before .before .before .before .before .before .before .before .loop .inv) (c .before .before .before .before .before .before .before .find .ensures) (c .before .before .before .before .before .before .if1 .left) (c .before .before .before .before .read-line .ensures)
-    (ap checkFault (sym (c .before .enum-told .given .1)) ∙ c .before .before .before .check .ensures) (c .count .ensures)
+    let checked = c .before .before .before in
+    let found = checked .before .before .before .before in
+    judging-next (found .before .before .before .loop .inv) (found .find .ensures) (checked .before .before .before .if1 .left) (checked .before .read-line .ensures)
+    (ap checkFault (sym (c .before .enum-told .given .1)) ∙ checked .check .ensures) (c .count .ensures)
 
 returns-3 : tie.Need-returns-3 Inv-loop μ-loop
 returns-3 c = judged-last (c .before .loop .inv) (c .loop-test .left)
@@ -59,7 +67,7 @@ judge-spec =
     (λ c. search needs)
     (λ c. search needs)
     (λ c κs. search needs)
-    (λ c. search needs)
+    (λ c κs. search needs)
     returns
     (λ c. search needs)
     (λ c. search needs)
@@ -67,7 +75,7 @@ judge-spec =
     (λ c κs. search needs)
     (λ c κs. search needs)
     (λ c. search needs)
-    (λ c. search needs)
+    (λ c κs. search needs)
     returns-2
     (λ c. search needs)
     (λ c κs. search needs)
