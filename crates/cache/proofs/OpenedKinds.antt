@@ -1,13 +1,12 @@
 -- One law for each kind of word of a cache just opened; `rest` is whatever stands behind its words.
 -- Assumes nothing.
 use mathlib.Core.Path.{_≡_, refl, sym, ap, _∙_}
-use mathlib.Core.List.{List, _++_, map, append-assoc}
-use Prim.Native.Nat.{ℕ, zero, suc, _+_, _*_, _<_, _≤_}
+use mathlib.Core.List.{List, _++_, append-assoc}
+use Prim.Native.Nat.{ℕ, _+_, _*_, _<_, _≤_}
 use native.Mathlib.Omega.{arith}
 use lib.ListN.{length, getD, take, replicate, length-append, length-replicate, getD-replicate, List·getD-append}
 use lib.Seq.{getD-append-add}
-use Rattle.model.specs.Lists.{upFrom, numbers}
-use Rattle.model.specs.Graph.{Graph, Direction, forward, backward, Domain, domain, Accepted, vertexCount, edgeCount, from, to, cost, edgeNumbers}
+use Rattle.model.specs.Graph.{Graph, Direction, Domain, domain, Accepted, vertexCount, edgeCount, from, to, cost, edgeNumbers}
 use Rattle.layout.specs.Layout.{initialAt, edgesAt, placesAt, numbersAt, slotsAt, treeWords}
 use Rattle.layout.specs.Words.{headerOf, edgeWords, firstPlace, firstPlaces, openedWords}
 use Rattle.layout.proofs.Edges.{edge-words-length, from-word, to-word, cost-word}
