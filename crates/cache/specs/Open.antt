@@ -55,7 +55,7 @@ abbrev pub afterOpen : OpenAnswer → List ℕ → AfterOpen
 afterOpen r ws = record { reply = openReply r; words = ws }
 
 -- the text has no fault and is of these counts; direction and slots are within their limits
-pub record Judgeable (text : List ℕ) (dir t : ℕ) (z : Counts) : Type 0 where
+pub record CanOpen (text : List ℕ) (dir t : ℕ) (z : Counts) : Type 0 where
   pub judged : judge text ≡ answered z
   pub direction : dir ≤ 1
   pub slots : t ≤ 64

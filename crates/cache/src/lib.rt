@@ -11,7 +11,7 @@ ghost use lib.ListN.{length, drop, replicate};
 ghost use Rattle.model.specs.Answers.{answered};
 ghost use Rattle.text.specs.Read.{graphOf};
 ghost use Rattle.layout.specs.Layout.{Sized};
-ghost use Rattle.cache.specs.Open.{openCache, afterOpen, openRead, Judgeable};
+ghost use Rattle.cache.specs.Open.{openCache, afterOpen, openRead, CanOpen};
 
 // Makes a cache of a graph's text in the words lent: direction 0 forward or 1 backward, 1 to 64 tree slots. The whole text is
 // judged before a word is written; words past those needed stay.
@@ -24,7 +24,7 @@ pub fn open(words: &mut [u32], text: &[u8], direction: u32, slots: usize) -> Ope
     if slots == 0 {
         return refused(Refusal::OverLimit);
     }
-    if 64 < slots {
+    if layout::MAX_SLOTS < slots {
         return refused(Refusal::OverLimit);
     }
     match judge(text) {
@@ -48,7 +48,7 @@ fn open_sized(
     slots: usize,
     counts: Counts,
 ) -> OpenAnswer
-    requires { ⌜ Judgeable (now text) direction slots counts ⌝ }
+    requires { ⌜ CanOpen (now text) direction slots counts ⌝ }
     ensures { λ r. ⌜ afterOpen r (now (words .exit)) ≡ openRead (answered (graphOf (now (text .entry)))) (now (words .entry)) direction slots ⌝ }
 {
     let vertices = counts.vertices;

@@ -5,6 +5,9 @@ ghost use Prim.Native.Nat.{_+_, _*_, _<_, _≤_};
 ghost use lib.ListN.{length, getD};
 ghost use Rattle.layout.specs.Layout.{headerWords, initialAt, edgesAt, edgeAt, placesAt, numbersAt, slotsAt, treeWords, needed, Sized, EdgeWord};
 
+// 01's limit of tree slots.
+pub const MAX_SLOTS: usize = 64;
+
 // The places of a header's words.
 pub const DIRECTION: usize = 0;
 

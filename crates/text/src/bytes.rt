@@ -4,6 +4,11 @@ ghost use Prim.Native.Nat.{_≤_};
 ghost use lib.ListN.{length};
 ghost use Rattle.text.specs.Bytes.{place, numberOf, digitsFrom};
 
+// `0` and `9`.
+const DIGIT_0: usize = 48;
+
+const DIGIT_9: usize = 57;
+
 // A field read as a number, which has at most 10 digits and so fits 64 bits.
 pub enum Number {
     Of(usize),
@@ -35,7 +40,7 @@ pub fn read_number(s: &[u8]) -> Number
         return Number::Illegal;
     }
     if 1 < s.len() {
-        if s[0] == 48 {
+        if s[0] == b'0' {
             return Number::Illegal;
         }
     }
@@ -50,13 +55,13 @@ fn digits(s: &[u8]) -> Number
     let mut i = 0;
     while i < s.len() {
         let b = wide(s[i]);
-        if b < 48 {
+        if b < DIGIT_0 {
             return Number::Illegal;
         }
-        if 57 < b {
+        if DIGIT_9 < b {
             return Number::Illegal;
         }
-        v = v * 10 + (b - 48);
+        v = v * 10 + (b - DIGIT_0);
         i += 1;
     }
     Number::Of(v)

@@ -9,6 +9,13 @@ ghost use Prim.Native.Nat.{_+_, _<_, _≤_};
 ghost use Rattle.model.specs.Calls.{firstFault};
 ghost use Rattle.text.specs.Read.{lineFaults, checkFault, counted, judge, judgedReply};
 
+// 01's limits, of vertices, edges and each cost.
+pub const MAX_VERTICES: usize = 1024;
+
+pub const MAX_EDGES: usize = 2048;
+
+pub const MAX_COST: usize = 999999;
+
 // Vertices and edges.
 pub struct Counts {
     pub vertices: usize,
@@ -46,13 +53,13 @@ impl Counts {
         if number != self.vertices {
             return Check::Fault(Refusal::OutOfOrder);
         }
-        if 1024 <= self.vertices {
+        if MAX_VERTICES <= self.vertices {
             return Check::Fault(Refusal::OverLimit);
         }
         let InitialCost::Cost(c) = initial else {
             return Check::Passed;
         };
-        if 999999 < c {
+        if MAX_COST < c {
             return Check::Fault(Refusal::OverLimit);
         }
         Check::Passed
@@ -61,10 +68,10 @@ impl Counts {
     fn check_edge(self, from: usize, to: usize, cost: usize) -> Check
         ensures { λ r. ⌜ checkFault r ≡ firstFault (lineFaults self (Line.Edge from to cost)) ⌝ }
     {
-        if 2048 <= self.edges {
+        if MAX_EDGES <= self.edges {
             return Check::Fault(Refusal::OverLimit);
         }
-        if 999999 < cost {
+        if MAX_COST < cost {
             return Check::Fault(Refusal::OverLimit);
         }
         if self.vertices <= from {
