@@ -1,10 +1,19 @@
--- The words needed fit a machine's number. Assumes nothing.
-use Prim.Native.Nat.{ℕ, _*_, _≤_}
+-- How many words a cache needs.
+-- Assumes nothing.
+use mathlib.Core.Path.{_≡_, ap}
+use Prim.Native.Nat.{ℕ, _+_, _*_, _≤_}
 use native.Mathlib.Omega.{arith}
 use native.Mathlib.Nat.{mul-le-mul-left}
-use Rattle.layout.specs.Layout.{treeWords, Sized}
+use Rattle.layout.specs.Layout.{Sized, treeWords, needed}
 
+-- they fit a machine's number
 pub slots-fit : {m l t : ℕ} → Sized m l → t ≤ 64 → t * treeWords m l ≤ 64 * 11272
 slots-fit {m} {l} {t} s h =
     let a : t * treeWords m l ≤ t * 11272 = mul-le-mul-left t (omega (arith, s .vertices, s .edges)) in
     omega arith
+
+-- the formula of document 01
+pub needed-is : (m l t : ℕ) → needed m l t ≡ 6 + 2 * m + 4 * l + t * (8 + 5 * l + m)
+needed-is m l t =
+    let tree : treeWords m l ≡ 8 + 5 * l + m = omega arith in
+    omega (arith, ap (λ (n : ℕ). t * n) tree)

@@ -4,41 +4,30 @@ use mathlib.Core.List.{List}
 use Prim.Native.Nat.{ℕ, _+_, _*_, _<_, _≤_}
 use lib.ListN.{take, drop}
 
--- 01's limits
-pub record Sized (m l : ℕ) : Type 0 where
-  pub vertices : m ≤ 1024
-  pub edges : l ≤ 2048
-
 -- "Header, 5 words: direction, M, L, T, trees in use."
 abbrev pub headerWords : ℕ
 headerWords = 5
 
--- "Then M start costs (4294967295 for `-`), L links of from, to, picks, M + 1 first-link places, L link numbers by leaving motif."
+-- "Then M start costs (4294967295 for `-`), L links of from, to, picks, M + 1 first-link places, L link numbers by leaving motif.":
+-- each area starts where the one before it ends
 abbrev pub initialAt : ℕ
-initialAt = 5
+initialAt = headerWords
 
 abbrev pub edgesAt : ℕ → ℕ
-edgesAt m = 5 + m
+edgesAt m = initialAt + m
 
--- an edge's three words
+-- edge e, of three words
 abbrev pub edgeAt : ℕ → ℕ → ℕ
 edgeAt m e = edgesAt m + 3 * e
 
 abbrev pub placesAt : ℕ → ℕ → ℕ
-placesAt m l = 5 + m + 3 * l
+placesAt m l = edgeAt m l
 
 abbrev pub numbersAt : ℕ → ℕ → ℕ
-numbersAt m l = 6 + 2 * m + 3 * l
+numbersAt m l = placesAt m l + (m + 1)
 
 abbrev pub slotsAt : ℕ → ℕ → ℕ
-slotsAt m l = 6 + 2 * m + 4 * l
-
--- words of n hold the word k of edge e
-pub record EdgeWord (n m e k : ℕ) : Type 0 where
-  pub vertices : m ≤ 1024
-  pub edge : e < 2048
-  pub word : k < 3
-  pub within : edgeAt m e + k < n
+slotsAt m l = numbersAt m l + l
 
 -- a tree's words, counted from its own start: "start motif, nodes used, queue length; 1 + L nodes of motif, cost, parent, link;
 -- 1 + L queue words; M closed words"
@@ -46,21 +35,35 @@ abbrev pub nodesAt : ℕ
 nodesAt = 3
 
 abbrev pub queueAt : ℕ → ℕ
-queueAt l = 7 + 4 * l
+queueAt l = nodesAt + 4 * (1 + l)
 
 abbrev pub closedAt : ℕ → ℕ
-closedAt l = 8 + 5 * l
+closedAt l = queueAt l + (1 + l)
 
 abbrev pub treeWords : ℕ → ℕ → ℕ
-treeWords m l = 8 + 5 * l + m
+treeWords m l = closedAt l + m
 
 abbrev pub slotAt : ℕ → ℕ → ℕ → ℕ
 slotAt m l i = slotsAt m l + i * treeWords m l
 
--- "it needs 6 + 2M + 4L + T × (8 + 5L + M) words"
+-- the words of a cache with t slots: "6 + 2M + 4L + T × (8 + 5L + M)"
 abbrev pub needed : ℕ → ℕ → ℕ → ℕ
-needed m l t = 6 + 2 * m + 4 * l + t * treeWords m l
+needed m l t = slotAt m l t
 
 -- n words from a on
 abbrev pub part : ℕ → ℕ → List ℕ → List ℕ
 part a n ws = take n (drop a ws)
+
+-- ---- what functions of places and words ask for
+
+-- 01's limits
+pub record Sized (m l : ℕ) : Type 0 where
+  pub vertices : m ≤ 1024
+  pub edges : l ≤ 2048
+
+-- n words hold the word k of edge e
+pub record EdgeWord (n m e k : ℕ) : Type 0 where
+  pub vertices : m ≤ 1024
+  pub edge : e < 2048
+  pub word : k < 3
+  pub within : edgeAt m e + k < n

@@ -3,7 +3,7 @@
 ghost use mathlib.Core.Path.{_≡_};
 ghost use Prim.Native.Nat.{_+_, _*_, _<_, _≤_};
 ghost use lib.ListN.{length, getD};
-ghost use Rattle.layout.specs.Layout.{headerWords, initialAt, edgesAt, edgeAt, placesAt, numbersAt, slotsAt, treeWords, needed, Sized, EdgeWord};
+ghost use Rattle.layout.specs.Layout.{headerWords, initialAt, edgesAt, edgeAt, placesAt, numbersAt, slotsAt, queueAt, closedAt, treeWords, slotAt, needed, Sized, EdgeWord};
 
 // 01's limit of tree slots.
 pub const MAX_SLOTS: usize = 64;
@@ -36,18 +36,25 @@ pub fn edges_at(vertices: usize) -> usize
     INITIAL_AT + vertices
 }
 
+pub fn edge_at(vertices: usize, edge: usize) -> usize
+    requires { ⌜ (vertices ≤ 1024) × (edge ≤ 2048) ⌝ }
+    ensures { λ r. ⌜ r ≡ edgeAt vertices edge ⌝ }
+{
+    edges_at(vertices) + 3 * edge
+}
+
 pub fn places_at(vertices: usize, edges: usize) -> usize
     requires { ⌜ Sized vertices edges ⌝ }
     ensures { λ r. ⌜ r ≡ placesAt vertices edges ⌝ }
 {
-    edges_at(vertices) + 3 * edges
+    edge_at(vertices, edges)
 }
 
 pub fn numbers_at(vertices: usize, edges: usize) -> usize
     requires { ⌜ Sized vertices edges ⌝ }
     ensures { λ r. ⌜ r ≡ numbersAt vertices edges ⌝ }
 {
-    places_at(vertices, edges) + vertices + 1
+    places_at(vertices, edges) + (vertices + 1)
 }
 
 pub fn slots_at(vertices: usize, edges: usize) -> usize
@@ -57,18 +64,42 @@ pub fn slots_at(vertices: usize, edges: usize) -> usize
     numbers_at(vertices, edges) + edges
 }
 
+// Within a tree's words: the nodes, the queue and the closed words.
+pub const NODES_AT: usize = 3;
+
+pub fn queue_at(edges: usize) -> usize
+    requires { ⌜ edges ≤ 2048 ⌝ }
+    ensures { λ r. ⌜ r ≡ queueAt edges ⌝ }
+{
+    NODES_AT + 4 * (1 + edges)
+}
+
+pub fn closed_at(edges: usize) -> usize
+    requires { ⌜ edges ≤ 2048 ⌝ }
+    ensures { λ r. ⌜ r ≡ closedAt edges ⌝ }
+{
+    queue_at(edges) + (1 + edges)
+}
+
 pub fn tree_words(vertices: usize, edges: usize) -> usize
     requires { ⌜ Sized vertices edges ⌝ }
     ensures { λ r. ⌜ r ≡ treeWords vertices edges ⌝ }
 {
-    8 + 5 * edges + vertices
+    closed_at(edges) + vertices
+}
+
+pub fn slot_at(vertices: usize, edges: usize, slot: usize) -> usize
+    requires { ⌜ Sized vertices edges × (slot ≤ 64) ⌝ }
+    ensures { λ r. ⌜ r ≡ slotAt vertices edges slot ⌝ }
+{
+    slots_at(vertices, edges) + slot * tree_words(vertices, edges)
 }
 
 pub fn words_needed(vertices: usize, edges: usize, slots: usize) -> usize
     requires { ⌜ Sized vertices edges × (slots ≤ 64) ⌝ }
     ensures { λ r. ⌜ r ≡ needed vertices edges slots ⌝ }
 {
-    slots_at(vertices, edges) + slots * tree_words(vertices, edges)
+    slot_at(vertices, edges, slots)
 }
 
 // One header word.
@@ -85,13 +116,6 @@ pub fn initial_cost(words: &[u32], vertex: usize) -> u32
     ensures { λ r. ⌜ r ≡ getD (now (words .entry)) (initialAt + vertex) 0 ⌝ }
 {
     words[INITIAL_AT + vertex]
-}
-
-pub fn edge_at(vertices: usize, edge: usize) -> usize
-    requires { ⌜ (vertices ≤ 1024) × (edge < 2048) ⌝ }
-    ensures { λ r. ⌜ r ≡ edgeAt vertices edge ⌝ }
-{
-    edges_at(vertices) + 3 * edge
 }
 
 // A word of an edge, by its place among the edge's words.
