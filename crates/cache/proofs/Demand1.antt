@@ -1,6 +1,6 @@
 -- Demand 1 of opening.
 -- Assumes nothing.
-use mathlib.Core.Path.{_≡_, refl, sym}
+use mathlib.Core.Path.{_≡_, refl, sym, ap, _∙_, subst}
 use mathlib.Core.Bool.{Bool, true, false}
 use mathlib.Core.List.{List}
 use mathlib.Core.Option.{Option, none, some}
@@ -9,7 +9,8 @@ use native.Mathlib.Omega.{arith}
 use lib.Dec.{leb, ltb}
 use lib.ListN.{length}
 use borrow.Author.Tests.{ltb-false, leb-true, not-false}
-use Rattle.model.specs.Answers.{Reply, answered, refused}
+use Rattle.model.specs.declared.OpenAnswer.{OpenAnswer}
+use Rattle.model.specs.Answers.{number, Reply, answered, refused, openReply}
 use Rattle.model.specs.Graph.{Graph, Accepted, vertexCount, edgeCount}
 use Rattle.model.specs.Calls.{firstFault}
 use Rattle.model.proofs.Bools.{and-true}
@@ -22,8 +23,8 @@ use Rattle.text.proofs.Accepted.{judged-accepted, read-is}
 use Rattle.layout.specs.Layout.{needed}
 use Rattle.layout.specs.Words.{openedWords}
 use Rattle.layout.specs.Read.{directionOf}
-use Rattle.cache.specs.Open.{measureFaults, openIf, openRead, openBy, openCache}
-use Rattle.cache.specs.Demand1.{Opens, Demand1}
+use Rattle.cache.specs.Open.{AfterOpen, measureFaults, openIf, openRead, openBy, openCache}
+use Rattle.cache.specs.Demand1.{Opens, Demand1OfOpen}
 use Rattle.cache.proofs.Opened.{opened-length, read-opened}
 
 -- ---- refused
@@ -80,9 +81,20 @@ opens-by none ws text d t q e =
     let both = and-true (leb 1 t) (leb t 64) (not-false _ (count .0)) in
     opens-read ws text d t (ltb-false _ _ (direction .0)) (leb-true _ _ (both .0), leb-true _ _ (both .1)) (judge text) refl e
 
-pub demand-1 : Demand1
+-- ---- the call, by its promise
+
+pub demand-1 : Demand1OfOpen
 unfolding openCache
-demand-1 = (
-  λ ws text d t n line e. refused-by (firstFault (measureFaults d t)) ws text d t n line e,
-  λ ws text d t e. opens-by (firstFault (measureFaults d t)) ws text d t refl e,
-)
+demand-1 ws text d t r left p = record {
+  refused = λ f line e. left-is ∙ refused-by faults ws text d t (number f) line (reply-is e);
+  opened = λ e. subst (Opens ws text d t) (sym left-is) (opens-by faults ws text d t refl (reply-is e));
+}
+  where
+    faults : Option ℕ
+    faults = firstFault (measureFaults d t)
+
+    left-is : left ≡ openCache ws text d t .words
+    left-is = ap (λ (x : AfterOpen). x .words) p
+
+    reply-is : {q : OpenAnswer} → r ≡ q → openCache ws text d t .reply ≡ openReply q
+    reply-is e = sym (ap (λ (x : AfterOpen). x .reply) p) ∙ ap openReply e

@@ -4,13 +4,16 @@ use mathlib.Core.Path.{_≡_}
 use mathlib.Core.List.{List}
 use Prim.Native.Nat.{ℕ, _≤_}
 use lib.ListN.{length, getD}
-use Rattle.model.specs.Answers.{answered, refused}
+use Rattle.model.specs.declared.OpenAnswer.{OpenAnswer}
+use Rattle.model.specs.declared.OpenAnswer.the-variants.{Opened, Refused}
+use Rattle.model.specs.declared.Refusal.{Refusal}
+use Rattle.model.specs.Answers.{answered}
 use Rattle.model.specs.Graph.{Graph, Accepted, vertexCount, edgeCount}
 use Rattle.model.specs.Calls.{opened}
 use Rattle.text.specs.Read.{readGraph}
 use Rattle.layout.specs.Layout.{needed}
 use Rattle.layout.specs.Read.{directionOf, readCache}
-use Rattle.cache.specs.Open.{openCache}
+use Rattle.cache.specs.Open.{Opening}
 
 -- what an accepted opening of the words ws leaves: the words `left` hold the graph of the text and no tree, and "words past that are
 -- never written"
@@ -25,8 +28,11 @@ pub record Opens (ws text : List ℕ) (d t : ℕ) (left : List ℕ) : Type 0 whe
   pub same-length : length left ≡ length ws
   pub past : (i : ℕ) → needed (vertexCount graph) (edgeCount graph) t ≤ i → getD left i 0 ≡ getD ws i 0
 
--- "hold, after any refused call, what they held before it"
-abbrev pub Demand1 : Type 0
-Demand1 =
-    ((ws text : List ℕ) (d t n line : ℕ) → (openCache ws text d t) .reply ≡ refused n line → (openCache ws text d t) .words ≡ ws)
-    × ((ws text : List ℕ) (d t : ℕ) → (openCache ws text d t) .reply ≡ answered tt → Opens ws text d t ((openCache ws text d t) .words))
+-- of every call of `open`, by nothing but its promise: "hold, after any refused call, what they held before it"
+pub record Demand1 (ws text : List ℕ) (d t : ℕ) (r : OpenAnswer) (left : List ℕ) : Type 0 where
+  pub refused : (f : Refusal) (line : ℕ) → r ≡ Refused f line → left ≡ ws
+  pub opened : r ≡ Opened → Opens ws text d t left
+
+abbrev pub Demand1OfOpen : Type 0
+Demand1OfOpen =
+    (ws text : List ℕ) (d t : ℕ) (r : OpenAnswer) (left : List ℕ) → Opening ws text d t r left → Demand1 ws text d t r left

@@ -54,6 +54,10 @@ openCache ws text direction slots = openBy (firstFault (measureFaults direction 
 abbrev pub afterOpen : OpenAnswer → List ℕ → AfterOpen
 afterOpen r ws = record { reply = openReply r; words = ws }
 
+-- the promise of `open`: answer and words left are the definition's, whatever words, text, direction and slots it is handed
+abbrev pub Opening : List ℕ → List ℕ → ℕ → ℕ → OpenAnswer → List ℕ → Type 0
+Opening ws text direction slots r left = afterOpen r left ≡ openCache ws text direction slots
+
 -- the text has no fault and is of these counts; direction and slots are within their limits
 pub record CanOpen (text : List ℕ) (dir t : ℕ) (z : Counts) : Type 0 where
   pub judged : judge text ≡ answered z

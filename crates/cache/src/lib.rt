@@ -11,12 +11,12 @@ ghost use lib.ListN.{length, drop, replicate};
 ghost use Rattle.model.specs.Answers.{answered};
 ghost use Rattle.text.specs.Read.{graphOf};
 ghost use Rattle.layout.specs.Layout.{Sized};
-ghost use Rattle.cache.specs.Open.{openCache, afterOpen, openRead, CanOpen};
+ghost use Rattle.cache.specs.Open.{Opening, afterOpen, openRead, CanOpen};
 
 // Makes a cache of a graph's text in the words lent: direction 0 forward or 1 backward, 1 to 64 tree slots. The whole text is
 // judged before a word is written; words past those needed stay.
 pub fn open(words: &mut [u32], text: &[u8], direction: u32, slots: usize) -> OpenAnswer
-    ensures { λ r. ⌜ afterOpen r (now (words .exit)) ≡ openCache (now (words .entry)) (now (text .entry)) direction slots ⌝ }
+    ensures { λ r. ⌜ Opening (now (words .entry)) (now (text .entry)) direction slots r (now (words .exit)) ⌝ }
 {
     if 1 < direction {
         return refused(Refusal::OverLimit);
