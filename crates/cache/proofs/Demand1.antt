@@ -61,6 +61,7 @@ module _ (ws text : List ℕ) (d t : ℕ) (within : d ≤ 1) (slots : (1 ≤ t) 
         direction = within;
         slots = slots;
         fits = fits;
+        words = refl;
         cache = read-opened (directionOf d) g t _;
         same-length = written-length (openedWords (directionOf d) g t) ws (omega arith);
         past = λ i h. written-past (openedWords (directionOf d) g t) ws i (omega arith);

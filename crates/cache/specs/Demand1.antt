@@ -9,14 +9,15 @@ use Rattle.model.specs.declared.OpenAnswer.the-variants.{Opened, Refused}
 use Rattle.model.specs.declared.Refusal.{Refusal}
 use Rattle.model.specs.Answers.{answered}
 use Rattle.model.specs.Graph.{Graph, Accepted, vertexCount, edgeCount}
-use Rattle.model.specs.Calls.{opened}
+use Rattle.model.specs.Calls.{opened, written}
 use Rattle.text.specs.Read.{readGraph}
 use Rattle.layout.specs.Layout.{needed}
+use Rattle.layout.specs.Words.{openedWords}
 use Rattle.layout.specs.Read.{directionOf, readCache}
 use Rattle.cache.specs.Open.{Opening}
 
--- what an accepted opening of the words ws leaves: the words `left` hold the graph of the text and no tree, and "words past that are
--- never written"
+-- what an accepted opening of the words ws leaves: each word is the layout's or as it was; the words hold the graph of the text and no
+-- tree; "words past that are never written"
 pub record Opens (ws text : List ℕ) (d t : ℕ) (left : List ℕ) : Type 0 where
   pub graph : Graph
   pub read : readGraph text ≡ answered graph
@@ -24,6 +25,7 @@ pub record Opens (ws text : List ℕ) (d t : ℕ) (left : List ℕ) : Type 0 whe
   pub direction : d ≤ 1
   pub slots : (1 ≤ t) × (t ≤ 64)
   pub fits : needed (vertexCount graph) (edgeCount graph) t ≤ length ws
+  pub words : left ≡ written (openedWords (directionOf d) graph t) ws
   pub cache : readCache left ≡ opened (directionOf d) graph t
   pub same-length : length left ≡ length ws
   pub past : (i : ℕ) → needed (vertexCount graph) (edgeCount graph) t ≤ i → getD left i 0 ≡ getD ws i 0
