@@ -1,3 +1,4 @@
 -- Laws that belong to no one function.
-pub mod Sizes
 pub mod Edges
+pub mod Places
+pub mod Sizes

@@ -1,16 +1,12 @@
 -- `edge_number` meets its contract.
 -- Assumes nothing.
 use borrow.Author.Needs.{needs}
-use mathlib.Core.Path.{ap, _∙_}
-use Prim.Native.Nat.{ℕ, _+_}
-use lib.ListN.{getD}
+use Rattle.layout.proofs.Places.{word-at}
 use Rattle.layout.proofs.edge_number.Statement.{statement}
 use Rattle.layout.proofs.edge_number.Tie as tie
 
 returns : tie.Need-returns
-returns c =
-    let a = c .before .before .before .before .args in
-    c .wide .ensures ∙ ap (λ (n : ℕ). getD (a .words .now) (n + a .place) 0) (c .before .before .numbers-at .ensures)
+returns c = let a = c .before .before .before .before .args in word-at (a .words .now) (a .place) (c .wide .ensures) (c .before .before .numbers-at .ensures)
 
 pub edge-number-spec : {M : Type 1} → statement M
 edge-number-spec =
