@@ -1,15 +1,19 @@
 -- Opening 01's chart, word by word, and the order of the refusals, by computation.
 -- Assumes nothing.
-use mathlib.Core.Path.{_≡_, refl}
+use mathlib.Core.Path.{_≡_, refl, sym, ap}
 use mathlib.Core.List.{[], _∷_, _++_}
 use Prim.Native.Nat.{ℕ}
-use lib.ListN.{replicate}
+use native.Mathlib.Omega.{arith}
+use lib.ListN.{replicate, getD}
+use Rattle.model.specs.declared.OpenAnswer.the-variants.{Opened, Refused}
+use Rattle.model.specs.declared.Refusal.the-variants.{OutOfOrder, OverLimit}
 use Rattle.model.specs.Answers.{answered, refused}
+use Rattle.model.proofs.Replies.{answered-refused}
 use Rattle.model.specs.Graph.{forward, backward, domain, absent}
 use Rattle.model.specs.Calls.{opened}
 use Rattle.text.proofs.Examples.{bytes, exampleText, exampleGraph}
 use Rattle.layout.specs.Read.{readCache}
-use Rattle.cache.specs.Open.{AfterOpen, openCache}
+use Rattle.cache.specs.Open.{AfterOpen, openCache, Opening}
 
 -- 01's chart needs 53 words with one slot; n words of 7 are lent
 unfoldable lent : ℕ → ℕ → ℕ → AfterOpen
@@ -146,3 +150,25 @@ reads-tree : readCache
     }
 unfolding readCache domain
 reads-tree = refl
+
+-- ---- what the promise of `open` shuts out: answers and words that a wrong program would leave, on 01's chart and on a text with a fault
+
+-- an opening that writes nothing
+no-word-written : Opening (replicate 55 7) (bytes exampleText) 0 1 Opened (replicate 55 7) → ⊥
+unfolding openCache bytes
+no-word-written p = let e : _≡_ {A = ℕ} 7 0 = ap (λ (x : AfterOpen). getD (x .words) 0 0) p in omega arith
+
+-- a header written before the fault of the second line was found
+header-before-fault : Opening (replicate 3 7) (bytes "M,0,0\nM,2,0\n") 0 1 (Refused OutOfOrder 2) (0 ∷ 7 ∷ 7 ∷ []) → ⊥
+unfolding openCache bytes
+header-before-fault p = let e : _≡_ {A = ℕ} 0 7 = ap (λ (x : AfterOpen). getD (x .words) 0 0) p in omega arith
+
+-- every opening refused
+always-refused : Opening (replicate 55 7) (bytes exampleText) 0 1 (Refused OverLimit 0) (replicate 55 7) → ⊥
+unfolding openCache bytes
+always-refused p = answered-refused tt 4 0 (sym (ap (λ (x : AfterOpen). x .reply) p))
+
+-- a word past those needed cleared as well
+past-cleared : Opening (replicate 15 7) [] 1 1 Opened ((1 ∷ 0 ∷ 0 ∷ 1 ∷ []) ++ replicate 11 0) → ⊥
+unfolding openCache
+past-cleared p = let e : _≡_ {A = ℕ} 0 7 = ap (λ (x : AfterOpen). getD (x .words) 14 0) p in omega arith
