@@ -2,6 +2,7 @@
 pub mod Buckets
 pub mod Filled
 pub mod Gathers
+pub mod Index
 pub mod Keys
 pub mod Lengths
 pub mod LineWords

@@ -8,6 +8,10 @@ use lib.ListN.{length, take, drop, replicate, length-append, length-replicate}
 use lib.Seq.{take-at, drop-at, drop-drop, length-take-le}
 use borrow.Rule.Slice.PartMut.{putMid, midOf, postOf, mid-len, same-len-mid, post-is, drop-put}
 
+-- n words from p on, by where they start and end
+pub mid-at : (l : List ℕ) {a e p : ℕ} (n : ℕ) → a ≡ p → e ≡ p + n → midOf a (e - a) l ≡ midOf p n l
+mid-at l {a} {e} {p} n h k = let size : e - a ≡ n = omega arith in ap₂ (λ (i j : ℕ). midOf i j l) h size
+
 -- the whole, with ys from a up to e
 pub put-mid : (l ys : List ℕ) (a e : ℕ) → a ≤ e → putMid a (e - a) l ys ≡ take a l ++ (ys ++ drop e l)
 put-mid l ys a e h = ap (λ (r : List ℕ). take a l ++ (ys ++ r)) (post-is a e l h)

@@ -2,3 +2,5 @@
 pub mod Edges
 pub mod Places
 pub mod Sizes
+pub mod Trees
+pub mod Same

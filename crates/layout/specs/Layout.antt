@@ -34,8 +34,12 @@ slotsAt m l = numbersAt m l + l
 abbrev pub nodesAt : ℕ
 nodesAt = 3
 
+-- node k, of four words
+abbrev pub nodeAt : ℕ → ℕ
+nodeAt k = nodesAt + 4 * k
+
 abbrev pub queueAt : ℕ → ℕ
-queueAt l = nodesAt + 4 * (1 + l)
+queueAt l = nodeAt (1 + l)
 
 abbrev pub closedAt : ℕ → ℕ
 closedAt l = queueAt l + (1 + l)
@@ -60,6 +64,11 @@ part a n ws = take n (drop a ws)
 pub record Sized (m l : ℕ) : Type 0 where
   pub vertices : m ≤ 1024
   pub edges : l ≤ 2048
+
+-- n words hold the word k of node i
+pub record NodeWord (n i k : ℕ) : Type 0 where
+  pub word : k < 4
+  pub within : nodeAt i + k < n
 
 -- n words hold the word k of edge e
 pub record EdgeWord (n m e k : ℕ) : Type 0 where

@@ -1,3 +1,5 @@
 pub mod Layout
 pub mod Words
 pub mod Read
+pub mod Sound
+pub mod Held

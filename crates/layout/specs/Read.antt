@@ -4,7 +4,7 @@ use mathlib.Core.List.{List, [], _∷_, map}
 use Prim.Native.Nat.{ℕ, zero, suc}
 use lib.ListN.{getD, drop}
 use Rattle.model.specs.Lists.{numbers, those, mem}
-use Rattle.model.specs.Graph.{Edge, Graph, Direction, forward, backward}
+use Rattle.model.specs.Graph.{Edge, Graph, Direction, forward, backward, Domain}
 use Rattle.model.specs.Tree.{Node, Tree}
 use Rattle.model.specs.Calls.{Cache}
 use Rattle.layout.specs.Layout.{initialAt, edgesAt, nodesAt, queueAt, closedAt, treeWords, slotAt, part}
@@ -22,6 +22,14 @@ edgesIn (suc l) ws = record { from = getD ws 0 0; to = getD ws 1 0; cost = getD 
 -- the graph as it is held: "Backward, links are turned round"
 unfoldable pub graphIn : ℕ → ℕ → List ℕ → Graph
 graphIn m l ws = record { initial = part initialAt m ws; edges = edgesIn l (drop (edgesAt m) ws) }
+
+-- the domain of a cache of direction dir
+abbrev pub domainIn : Direction → ℕ → ℕ → List ℕ → Domain
+domainIn dir m l ws = record { direction = dir; graph = graphIn m l ws }
+
+-- the domain of the cache that the words hold
+abbrev pub domainOf : ℕ → ℕ → List ℕ → Domain
+domainOf m l ws = domainIn (directionOf (getD ws 0 0)) m l ws
 
 -- n nodes of four words
 abbrev pub nodesIn : ℕ → List ℕ → List Node
@@ -49,7 +57,7 @@ readCache ws =
     let m = getD ws 1 0 in
     let l = getD ws 2 0 in
     record {
-      domain = record { direction = directionOf (getD ws 0 0); graph = graphIn m l ws };
+      domain = domainOf m l ws;
       slots = getD ws 3 0;
       trees = treesIn m l (getD ws 4 0) ws;
     }

@@ -3,10 +3,13 @@
 ghost use mathlib.Core.Path.{_≡_};
 ghost use Prim.Native.Nat.{_+_, _*_, _<_, _≤_};
 ghost use lib.ListN.{length, getD};
-ghost use Rattle.layout.specs.Layout.{headerWords, initialAt, edgesAt, edgeAt, placesAt, numbersAt, slotsAt, queueAt, closedAt, treeWords, slotAt, needed, Sized, EdgeWord};
+ghost use Rattle.layout.specs.Layout.{headerWords, initialAt, edgesAt, edgeAt, placesAt, numbersAt, slotsAt, nodeAt, queueAt, closedAt, treeWords, slotAt, needed, Sized, EdgeWord, NodeWord};
 
 // 01's limit of tree slots.
 pub const MAX_SLOTS: usize = 64;
+
+// No initial cost; also the parent and the edge of a root.
+pub const ABSENT: u32 = 4294967295;
 
 // The places of a header's words.
 pub const DIRECTION: usize = 0;
@@ -25,6 +28,22 @@ pub const FROM: usize = 0;
 pub const TO: usize = 1;
 
 pub const COST: usize = 2;
+
+// The places of a tree's own three words.
+pub const START: usize = 0;
+
+pub const NODES: usize = 1;
+
+pub const QUEUED: usize = 2;
+
+// The places of a node's words.
+pub const NODE_VERTEX: usize = 0;
+
+pub const NODE_COST: usize = 1;
+
+pub const NODE_PARENT: usize = 2;
+
+pub const NODE_EDGE: usize = 3;
 
 // The initial costs stand behind the header.
 pub const INITIAL_AT: usize = 5;
@@ -124,6 +143,14 @@ pub fn edge_word(words: &[u32], vertices: usize, edge: usize, place: usize) -> u
     ensures { λ r. ⌜ r ≡ getD (now (words .entry)) (edgeAt vertices edge + place) 0 ⌝ }
 {
     words[edge_at(vertices, edge) + place]
+}
+
+// A word of a node, by its place among the node's words; `tree` has a tree's own words.
+pub fn node_word(tree: &[u32], node: usize, place: usize) -> u32
+    requires { ⌜ NodeWord (length (now tree)) node place ⌝ }
+    ensures { λ r. ⌜ r ≡ getD (now (tree .entry)) (nodeAt node + place) 0 ⌝ }
+{
+    tree[NODES_AT + 4 * node + place]
 }
 
 // Where the edges of a vertex begin among the edge numbers; those of the last vertex end at the place past it.

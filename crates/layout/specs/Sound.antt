@@ -1,0 +1,125 @@
+-- When the words of a cache are sound: 01's sentence "A book is sound if ..", clause by clause, as tests on the words.
+-- Assumes nothing.
+use mathlib.Core.Bool.{Bool, true, false, not, _&&_, _||_}
+use mathlib.Core.List.{List, [], _∷_}
+use Prim.Native.Nat.{ℕ, _+_, _-_, _*_, _/_}
+use lib.Dec.{eqb, leb, ltb}
+use lib.ListN.{length, getD, drop}
+use Rattle.model.specs.Lists.{allb, allBelow, upto}
+use Rattle.model.specs.Graph.{Graph, Domain, from, to, cost, absent, vertexCount, edgeCount, edgeNumbers}
+use Rattle.model.specs.Tree.{Node, Tree, precedes}
+use Rattle.model.specs.Sound.{soundb, starts, distinctb}
+use Rattle.model.specs.Calls.{Cache}
+use Rattle.layout.specs.Layout.{headerWords, placesAt, numbersAt, nodesAt, nodeAt, queueAt, closedAt, treeWords, slotAt, needed, part}
+use Rattle.layout.specs.Words.{firstPlaces}
+use Rattle.layout.specs.Read.{nodesIn, treeIn, readCache}
+
+-- two lists are one
+unfoldable pub sameb : List ℕ → List ℕ → Bool
+sameb [] [] = true
+sameb [] (y ∷ ys) = false
+sameb (x ∷ xs) [] = false
+sameb (x ∷ xs) (y ∷ ys) = eqb x y && sameb xs ys
+
+-- "Unused words, emptied queue words too, are 0, also in a sound book."
+unfoldable pub zerosb : List ℕ → Bool
+zerosb [] = true
+zerosb (x ∷ xs) = eqb x 0 && zerosb xs
+
+-- ---- "header and chart words are such as opening writes"
+
+-- direction, M, L and T within their limits, trees in use at most T; "the slice is too short for its header" or for the formula
+abbrev pub headerTests : List ℕ → List Bool
+headerTests ws =
+    leb headerWords (length ws)
+    ∷ leb (getD ws 0 0) 1
+    ∷ leb (getD ws 1 0) 1024
+    ∷ leb (getD ws 2 0) 2048
+    ∷ leb 1 (getD ws 3 0)
+    ∷ leb (getD ws 3 0) 64
+    ∷ leb (getD ws 4 0) (getD ws 3 0)
+    ∷ leb (needed (getD ws 1 0) (getD ws 2 0) (getD ws 3 0)) (length ws)
+    ∷ []
+
+-- an initial cost: "4294967295 for `-`", or at most 999,999
+abbrev pub initialb : ℕ → Bool
+initialb c = eqb c absent || leb c 999999
+
+-- an edge: its ends are vertices, its cost is at most 999,999
+abbrev pub edgeTests : Graph → ℕ → List Bool
+edgeTests g e = ltb (from g e) (vertexCount g) ∷ ltb (to g e) (vertexCount g) ∷ leb (cost g e) 999999 ∷ []
+
+-- first places and edge numbers are those of the edges that stand before them
+abbrev pub indexTests : Domain → List ℕ → List Bool
+indexTests d ws =
+    let m = vertexCount (d .graph) in
+    let l = edgeCount (d .graph) in
+    sameb (part (placesAt m l) (m + 1) ws) (firstPlaces d)
+    ∷ sameb (part (numbersAt m l) l ws) (edgeNumbers d)
+    ∷ []
+
+unfoldable pub indexb : Domain → List ℕ → Bool
+unfolding sameb firstPlaces edgeNumbers
+indexb d ws = allb (indexTests d ws)
+
+abbrev pub graphTests : Domain → List ℕ → List Bool
+graphTests d ws =
+    upto (λ v. initialb (getD (d .graph .initial) v absent)) (vertexCount (d .graph))
+    ∷ upto (λ e. allb (edgeTests (d .graph) e)) (edgeCount (d .graph))
+    ∷ indexb d ws
+    ∷ []
+
+-- ---- one tree: what is asked of its own words beside the tree read off them
+
+-- the queue words in use
+abbrev pub queueIn : ℕ → List ℕ → List ℕ
+queueIn l t = part (queueAt l) (getD t 2 0) t
+
+-- "in heap order by cost, then number": no word goes before the word at place (i - 1) / 2
+abbrev pub heapb : List Node → List ℕ → Bool
+heapb ns q = upto (λ i. eqb i 0 || not (precedes ns (getD q i 0) (getD q ((i - 1) / 2) 0))) (length q)
+
+abbrev pub formTests : ℕ → List ℕ → List Bool
+formTests l t =
+    -- nodes used and queue length are within their areas
+    leb (getD t 1 0) (1 + l)
+    ∷ leb (getD t 2 0) (1 + l)
+    -- "queue words are distinct nodes in heap order by cost, then number"
+    ∷ allBelow (getD t 1 0) (queueIn l t)
+    ∷ distinctb (queueIn l t)
+    ∷ heapb (nodesIn (getD t 1 0) (drop nodesAt t)) (queueIn l t)
+    -- unused nodes, unused queue words
+    ∷ zerosb (part (nodeAt (getD t 1 0)) (queueAt l - nodeAt (getD t 1 0)) t)
+    ∷ zerosb (part (queueAt l + getD t 2 0) (closedAt l - (queueAt l + getD t 2 0)) t)
+    ∷ []
+
+unfoldable pub formedb : ℕ → List ℕ → Bool
+unfolding upto distinctb zerosb
+formedb l t = allb (formTests l t)
+
+-- "in each tree: ..": its words are formed, and the tree read off them is sound
+unfoldable pub treeWordsb : Domain → ℕ → ℕ → List ℕ → Bool
+unfolding formedb soundb treeIn
+treeWordsb d m l t = formedb l t && soundb d (treeIn m l t)
+
+-- ---- the whole
+
+-- the words of slot i
+abbrev pub slotWords : ℕ → ℕ → ℕ → List ℕ → List ℕ
+slotWords m l i ws = part (slotAt m l i) (treeWords m l) ws
+
+-- "start motifs differ, and in each tree: .."; the words of slots not in use are 0
+abbrev pub treesTests : List ℕ → List Bool
+treesTests ws =
+    let c = readCache ws in
+    let m = getD ws 1 0 in
+    let l = getD ws 2 0 in
+    let used = getD ws 4 0 in
+    distinctb (starts (c .trees))
+    ∷ upto (λ i. treeWordsb (c .domain) m l (slotWords m l i ws)) used
+    ∷ zerosb (part (slotAt m l used) (needed m l (getD ws 3 0) - slotAt m l used) ws)
+    ∷ []
+
+unfoldable pub soundWordsb : List ℕ → Bool
+unfolding upto sameb zerosb distinctb indexb treeWordsb readCache
+soundWordsb ws = allb (headerTests ws) && (allb (graphTests (readCache ws .domain) ws) && allb (treesTests ws))

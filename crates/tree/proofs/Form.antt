@@ -1,0 +1,156 @@
+-- The test of a tree's own words passes exactly if the words are formed.
+-- Assumes nothing.
+use mathlib.Core.Path.{_≡_, refl, sym, ap, ap₂, _∙_}
+use mathlib.Core.Logic.{inl, inr}
+use mathlib.Core.Bool.{Bool, true, false, not, _&&_, _||_}
+use mathlib.Core.List.{List, [], _∷_}
+use Prim.Native.Nat.{ℕ, zero, suc, _+_, _-_, _/_, _<_, _≤_}
+use native.Mathlib.Omega.{arith}
+use native.Mathlib.Decide.{ℕ-discrete, decLt}
+use lib.Dec.{eqb, ltb}
+use lib.ListN.{length, getD, drop}
+use borrow.Author.Tests.{ltb-true, ltb-false, leb-true, eqb-true, not-true, lt-ltb, le-ltb, le-leb, eq-eqb, ne-eqb}
+use Rattle.model.specs.Lists.{upFrom, numbers, those, mem, allBelow}
+use Rattle.model.specs.Tree.{Node, evaluation, precedes}
+use Rattle.model.specs.Sound.{distinctb}
+use Rattle.model.proofs.Lists.{up-length, those-length, those-split}
+use Rattle.model.proofs.Bools.{and-true, or-cases, true-or-left, true-or-right, all-true, true-given, upto-at, at-upto}
+use Rattle.layout.specs.Layout.{nodesAt, nodeAt, queueAt, closedAt}
+use Rattle.layout.specs.Read.{nodesIn, treeIn}
+use Rattle.layout.specs.Sound.{queueIn, heapb, formTests, formedb}
+use Rattle.layout.proofs.Trees.{node-at}
+use Rattle.queue.specs.Queue.{evaluationIn, key, rank, times, Heap}
+use Rattle.queue.proofs.Keys.{key-less, key-more, key-tie}
+use Rattle.tree.specs.Tree.{treeOf, Formed}
+use Rattle.tree.proofs.Parts.{part-at, part-length, zeros-at, at-zeros, below-at, at-below, times-once, once-distinct}
+
+-- ---- the queue's order
+
+pub precedes-key : (t : List ℕ) (a b : ℕ) → getD t 1 0 ≤ 4294967295 → a < getD t 1 0 → b < getD t 1 0
+    → precedes (nodesIn (getD t 1 0) (drop nodesAt t)) a b ≡ ltb (key t a) (key t b)
+precedes-key t a b few ha hb = go _ _ (cost a ha) (cost b hb)
+  where
+    cost : (k : ℕ) → k < getD t 1 0 → evaluation (nodesIn (getD t 1 0) (drop nodesAt t)) k ≡ evaluationIn t k
+    cost k h = ap (λ (x : Node). x .cost) (node-at (getD t 1 0) t k h)
+
+    go : (x y : ℕ) → x ≡ evaluationIn t a → y ≡ evaluationIn t b → (ltb x y || (eqb x y && ltb a b)) ≡ ltb (key t a) (key t b)
+    go x y ex ey = elim (decLt x y) [
+      | yes h ↦ rw (lt-ltb x y h) (key-less t a b x y (omega arith) (omega arith) ex ey h)
+      | no n ↦ elim (decLt y x) [
+        | yes k ↦ rw (le-ltb x y (omega arith), ne-eqb x y (omega arith)) (key-more t a b x y (omega arith) (omega arith) ex ey k)
+        | no m ↦ rw (le-ltb x y (omega arith), eq-eqb x y (omega arith)) (key-tie t a b x y (omega arith) (omega arith) ex ey (omega arith) (omega arith))
+      ]
+    ]
+
+-- heap order
+module _ (l : ℕ) (t : List ℕ) (fits : queueAt l + getD t 2 0 ≤ length t) (few : getD t 1 0 ≤ 4294967295)
+    (below : (i : ℕ) → i < getD t 2 0 → getD t (queueAt l + i) 0 < getD t 1 0) where
+  all : length (queueIn l t) ≡ getD t 2 0
+  all = part-length (queueAt l) (getD t 2 0) t fits
+
+  ranks : (i j : ℕ) → i < getD t 2 0 → j < getD t 2 0
+      → precedes (nodesIn (getD t 1 0) (drop nodesAt t)) (getD (queueIn l t) i 0) (getD (queueIn l t) j 0) ≡ ltb (rank t (queueAt l) i) (rank t (queueAt l) j)
+  unfolding rank
+  ranks i j h k =
+      ap₂ (precedes (nodesIn (getD t 1 0) (drop nodesAt t))) (part-at (queueAt l) (getD t 2 0) t i h) (part-at (queueAt l) (getD t 2 0) t j k)
+      ∙ precedes-key t _ _ few (below i h) (below j k)
+
+  pub heap-at : heapb (nodesIn (getD t 1 0) (drop nodesAt t)) (queueIn l t) ≡ true → Heap (rank t (queueAt l)) (getD t 2 0)
+  heap-at e i pos h = elim (or-cases (eqb i 0) _ (upto-at _ (length (queueIn l t)) e i (omega (arith, all)))) [
+    | inl z ↦ absurd (omega (arith, eqb-true i 0 z))
+    | inr z ↦ ltb-false _ _ (sym (ranks i ((i - 1) / 2) h (omega arith)) ∙ not-true _ z)
+  ]
+
+  pub at-heap : Heap (rank t (queueAt l)) (getD t 2 0) → heapb (nodesIn (getD t 1 0) (drop nodesAt t)) (queueIn l t) ≡ true
+  at-heap heap = at-upto _ (length (queueIn l t)) (λ i h.
+      let k : i < getD t 2 0 = omega (arith, all) in
+      elim (ℕ-discrete i 0) [
+        | yes z ↦ true-or-left (eqb i 0) _ (eq-eqb i 0 z)
+        | no z ↦ true-or-right (eqb i 0) _ (ap not (ranks i ((i - 1) / 2) k (omega arith) ∙ le-ltb _ _ (heap i (omega arith) k)))
+      ])
+
+-- ---- the waiting nodes
+
+-- of k numbers from n on: a test that fails at each of them picks none, and one is x
+none : (p : ℕ → Bool) (k n : ℕ) → ((y : ℕ) → n ≤ y → p y ≡ false) → length (those p (upFrom k n)) ≡ 0
+unfolding those
+none p zero n f = refl
+none p (suc k) n f = rw (f n (omega arith)) (none p k (suc n) (λ y h. f y (omega arith)))
+
+single : (x k n : ℕ) → n ≤ x → x < n + k → length (those (λ y. eqb y x) (upFrom k n)) ≡ 1
+unfolding those
+single x zero n h g = absurd (omega arith)
+single x (suc k) n h g = elim (ℕ-discrete n x) [
+  | yes e ↦ rw (eq-eqb n x e) (ap suc (none (λ y. eqb y x) k (suc n) (λ y z. ne-eqb y x (omega arith))))
+  | no ne ↦ rw (ne-eqb n x ne) (single x k (suc n) (omega arith) (omega arith))
+]
+
+-- of the numbers below u, as many are in a list as it has elements
+listed-length : (u : ℕ) (xs : List ℕ) → allBelow u xs ≡ true → distinctb xs ≡ true → length (those (λ n. mem n xs) (numbers u)) ≡ length xs
+unfolding mem distinctb
+listed-length u [] b d = none (λ n. false) u 0 (λ y h. refl)
+listed-length u (x ∷ xs) b d =
+    let low = and-true (ltb x u) (allBelow u xs) b in
+    let new = and-true (not (mem x xs)) (distinctb xs) d in
+    let less : x < u = ltb-true x u (low .0) in
+    omega (
+      arith,
+      those-split (λ n. mem n xs) (λ n. eqb n x) (λ n. mem n (x ∷ xs)) (λ n. elim (ℕ-discrete n x) [
+        | yes e ↦ inr (ap (λ (y : ℕ). mem y xs) e ∙ not-true _ (new .0), eq-eqb n x e, rw (eq-eqb n x e))
+        | no ne ↦ inl (ne-eqb n x ne, rw (ne-eqb n x ne))
+      ]) (numbers u),
+      single x u 0 (omega arith) (omega arith),
+      listed-length u xs (low .1) (new .1),
+    )
+
+module _ (l : ℕ) (t : List ℕ) (fits : queueAt l + getD t 2 0 ≤ length t)
+    (below : (i : ℕ) → i < getD t 2 0 → getD t (queueAt l + i) 0 < getD t 1 0) (once : (x : ℕ) → times t (queueAt l) (getD t 2 0) x ≤ 1) where
+  pub waiting-length : length (treeOf l t .waiting) ≡ getD t 2 0
+  unfolding treeIn
+  waiting-length =
+      listed-length (getD t 1 0) (queueIn l t) (at-below t (queueAt l) (getD t 2 0) (getD t 1 0) fits below) (once-distinct t (queueAt l) (getD t 2 0) fits once)
+      ∙ part-length (queueAt l) (getD t 2 0) t fits
+
+  -- no more nodes wait than there are
+  pub waiting-fit : getD t 2 0 ≤ getD t 1 0
+  unfolding treeIn
+  waiting-fit = omega (arith, waiting-length, those-length (λ n. mem n (queueIn l t)) (numbers (getD t 1 0)), up-length (getD t 1 0) 0)
+
+-- ---- the whole
+
+pub formed-at : (l : ℕ) (t : List ℕ) → l ≤ 2048 → closedAt l ≤ length t → length t ≤ closedAt l + 1024
+    → ((v : ℕ) → closedAt l + v < length t → getD t (closedAt l + v) 0 ≤ getD t 1 0) → formedb l t ≡ true → Formed l t
+unfolding formedb
+formed-at l t edges fits vertices closers e =
+    let r = all-true (formTests l t) e in
+    let used : getD t 1 0 ≤ 1 + l = leb-true _ _ (r .0) in
+    let room : getD t 2 0 ≤ 1 + l = leb-true _ _ (r .1 .0) in
+    let fit : queueAt l + getD t 2 0 ≤ length t = omega arith in
+    let below : (i : ℕ) → i < getD t 2 0 → getD t (queueAt l + i) 0 < getD t 1 0 = below-at t (queueAt l) (getD t 2 0) (getD t 1 0) fit (r .1 .1 .0) in
+    let once : (x : ℕ) → times t (queueAt l) (getD t 2 0) x ≤ 1 = times-once t (queueAt l) (getD t 2 0) fit (r .1 .1 .1 .0) in
+    record {
+      edges = edges;
+      fits = fits;
+      vertices = vertices;
+      used = used;
+      queued = waiting-fit l t fit below once;
+      nodes = below;
+      once = once;
+      heap = heap-at l t fit (omega arith) below (r .1 .1 .1 .1 .0);
+      closers = closers;
+      spare-nodes = zeros-at t (nodeAt (getD t 1 0)) (queueAt l) (r .1 .1 .1 .1 .1 .0);
+      spare-queue = zeros-at t (queueAt l + getD t 2 0) (closedAt l) (r .1 .1 .1 .1 .1 .1 .0);
+    }
+
+pub at-formed : (l : ℕ) (t : List ℕ) → Formed l t → formedb l t ≡ true
+unfolding formedb
+at-formed l t f =
+    let fit : queueAt l + getD t 2 0 ≤ length t = omega (arith, f .queued, f .used, f .fits) in
+    true-given (formTests l t)
+    (le-leb _ _ (f .used))
+    (le-leb (getD t 2 0) (1 + l) (omega (arith, f .queued, f .used)))
+    (at-below t (queueAt l) (getD t 2 0) (getD t 1 0) fit (f .nodes))
+    (once-distinct t (queueAt l) (getD t 2 0) fit (f .once))
+    (at-heap l t fit (omega (arith, f .used, f .edges)) (f .nodes) (f .heap))
+    (at-zeros t (nodeAt (getD t 1 0)) (queueAt l) (f .spare-nodes))
+    (at-zeros t (queueAt l + getD t 2 0) (closedAt l) (f .spare-queue))

@@ -1,0 +1,131 @@
+-- Taking the first ticket: it is the least of the waiting nodes, and the tree is as it was but for it.
+-- Assumes nothing.
+use mathlib.Core.Path.{_≡_, refl, sym, ap, _∙_}
+use mathlib.Core.Logic.{inl, inr}
+use mathlib.Core.Option.{none, some}
+use mathlib.Core.List.{List, [], _∷_, List·Memᴰ, List·Memᴰ·head, List·Memᴰ·tail, List·Memᴰ·not-nil, List·Memᴰ·cases-cons}
+use Prim.Native.Nat.{ℕ, _+_, _-_, _<_, _≤_}
+use native.Mathlib.Omega.{arith}
+use native.Mathlib.Decide.{ℕ-discrete, decLt}
+use lib.ListN.{length, getD, drop}
+use Rattle.model.specs.Tree.{Node, evaluation, least, leastOf, popped}
+use Rattle.model.proofs.Lists.{Before, before-one, Least, least-is}
+use Rattle.layout.specs.Layout.{nodesAt, queueAt, closedAt, part}
+use Rattle.layout.specs.Read.{nodesIn, treeIn}
+use Rattle.queue.specs.declared.Popped.{Popped}
+use Rattle.queue.specs.declared.Popped.the-variants.{Ticket, Empty}
+use Rattle.queue.specs.Queue.{evaluationIn, key, rank, one, times, CanPop, Taken, PoppedIs}
+use Rattle.queue.proofs.Times.{one-same, times-place, place-times}
+use Rattle.tree.specs.Tree.{treeOf, Formed, Pops, PopIs}
+use Rattle.tree.proofs.Same.{nodes-same, part-same}
+use Rattle.tree.proofs.Waiting.{waits, waiting-mem, waiting-has, waiting-popped, waits-node}
+use Rattle.tree.proofs.Closed.{node-cost}
+
+-- what the queue asks for
+pub formed-queue : {l : ℕ} {t : List ℕ} → Formed l t → CanPop t (queueAt l)
+formed-queue f = record {
+  queue = record {
+    room = record { fits = omega arith; nodes = λ i h. omega (arith, f .nodes i h) };
+    heap = f .heap;
+  };
+  behind = omega arith;
+}
+
+-- ---- the least ticket
+
+least-one : (ns : List Node) (q : List ℕ) (x : ℕ) → List·Memᴰ x q → ((j : ℕ) → List·Memᴰ j q → Before ns x j) → least ns q ≡ some x
+unfolding least
+least-one ns [] x m f = absurd (List·Memᴰ·not-nil m)
+least-one ns (y ∷ ys) x m f =
+    let n : ℕ = leastOf ns y ys in
+    let r : Least ns y ys n = least-is ns y ys in
+    let there : List·Memᴰ n (y ∷ ys) = elim (r .among) [ inl z ↦ List·Memᴰ·head z | inr z ↦ List·Memᴰ·tail z ] in
+    let nx : Before ns n x = elim (List·Memᴰ·cases-cons m) [ inl z ↦ rw z (r .first) | inr z ↦ r .firsts x z ] in
+    ap some (before-one ns n x nx (f n there))
+
+-- the order of keys is the order of tickets
+key-before : (l : ℕ) (t : List ℕ) (a b : ℕ) → Formed l t → a < getD t 1 0 → b < getD t 1 0 → key t a ≤ key t b → Before (treeOf l t .nodes) a b
+unfolding key
+key-before l t a b f ha hb h = elim (decLt (evaluationIn t a) (evaluationIn t b)) [
+  | yes less ↦ inl (omega (arith, node-cost l a t ha, node-cost l b t hb))
+  | no more ↦ inr (omega (arith, node-cost l a t ha, node-cost l b t hb))
+]
+
+pub least-none : (l : ℕ) (s : List ℕ) → Formed l s → getD s 2 0 ≡ 0 → least (treeOf l s .nodes) (treeOf l s .waiting) ≡ none
+unfolding least
+least-none l s f e = go (treeOf l s .waiting) (waiting-mem l s (formed-queue f .queue .room .fits))
+  where
+    go : (q : List ℕ) → ((x : ℕ) → List·Memᴰ x q → 0 < waits l s x) → least (treeOf l s .nodes) q ≡ none
+    go [] h = refl
+    go (x ∷ xs) h = absurd (omega (arith, times-place s (queueAt l) (getD s 2 0) x (h x (List·Memᴰ·head refl)) .1))
+
+-- ---- node k is taken, and m words are left in the queue
+
+module _ {l k m : ℕ} {s t : List ℕ} (f : Formed l s) (p : Taken s t (queueAt l) k m) where
+  fits : queueAt l + getD s 2 0 ≤ length s
+  fits = formed-queue f .queue .room .fits
+
+  used : getD t 1 0 ≡ getD s 1 0
+  used = p .below 1 (omega arith) (omega arith)
+
+  counts : (x : ℕ) → waits l t x + one k x ≡ waits l s x
+  counts x = ap (λ (n : ℕ). times t (queueAt l) n x + one k x) (p .count) ∙ p .waiting x ∙ sym (ap (λ (n : ℕ). times s (queueAt l) n x) (p .some))
+
+  waits-first : 0 < waits l s k
+  waits-first = omega (arith, counts k, one-same k k refl)
+
+  first-least : (x : ℕ) → 0 < waits l s x → key s k ≤ key s x
+  unfolding rank
+  first-least x h = let i = times-place s (queueAt l) (getD s 2 0) x h in rw (i .2) at (p .least (i .0) (omega (arith, i .1)))
+
+  pub taken-first : least (treeOf l s .nodes) (treeOf l s .waiting) ≡ some k
+  taken-first =
+      least-one (treeOf l s .nodes) (treeOf l s .waiting) k (waiting-has l s fits k (waits-node f k waits-first) waits-first)
+      (λ j h. let w = waiting-mem l s fits j h in key-before l s k j f (waits-node f k waits-first) (waits-node f j w) (first-least j w))
+
+  pub taken-formed : Formed l t
+  taken-formed = record {
+    edges = f .edges;
+    fits = omega arith;
+    vertices = omega arith;
+    used = omega (arith, used);
+    queued = omega (arith, used);
+    nodes = λ i h. omega (arith, used, waits-node f (getD t (queueAt l + i) 0) (omega (arith, counts (getD t (queueAt l + i) 0), place-times t (queueAt l) (getD t 2 0) i h)));
+    once = λ x. omega (arith, counts x, f .once x);
+    heap = p .queue .heap;
+    closers = λ v h. omega (arith, used, p .above (closedAt l + v) (omega arith), f .closers v (omega arith));
+    spare-nodes = λ i h b. p .below i b (omega arith) ∙ f .spare-nodes i (omega (arith, used)) b;
+    spare-queue = λ i h b. elim (ℕ-discrete i (queueAt l + m)) [
+      | yes e ↦ ap (λ (j : ℕ). getD t j 0) e ∙ p .cleared
+      | no ne ↦ p .above i (omega arith) ∙ f .spare-queue i (omega arith) b
+    ];
+  }
+
+  pub taken-tree : treeOf l t ≡ popped (treeOf l s) k
+  unfolding treeIn popped
+  taken-tree = λ i. record {
+    start = p .below 0 (omega arith) (omega arith) i;
+    nodes = same-nodes i;
+    waiting = waiting-popped l s t fits (p .queue .room .fits) k used counts (f .once k) i;
+    closed = same-closed i;
+  }
+    where
+      same-nodes : treeOf l t .nodes ≡ treeOf l s .nodes
+      same-nodes = ap (λ (n : ℕ). nodesIn n (drop nodesAt t)) used ∙ nodes-same (getD s 1 0) s t (λ j a b. p .below j (omega arith) (omega arith))
+
+      same-closed : treeOf l t .closed ≡ treeOf l s .closed
+      same-closed =
+          ap (λ (n : ℕ). part (closedAt l) (n - closedAt l) t) (p .len)
+          ∙ part-same (closedAt l) (length s - closedAt l) s t (p .len) (λ j h. p .above j (omega arith))
+
+  pub taken-pops : Pops l s t k m
+  taken-pops = record { first = taken-first; tree = taken-tree; formed = taken-formed; node = omega (arith, used, waits-node f k waits-first); left = p .count }
+
+-- ---- the call
+
+pub can-pop : {l q : ℕ} {t : List ℕ} → Formed l t → q ≡ queueAt l → CanPop t q
+can-pop f e = rw e (formed-queue f)
+
+pub pop-is : (l q : ℕ) (s t : List ℕ) (r : Popped) → Formed l s → q ≡ queueAt l → PoppedIs s t q r → PopIs l s t r
+pop-is l q s t (Ticket k m) f e p = let x : Taken s t (queueAt l) k m = rw e at p in taken-pops f x
+pop-is l q s t Empty f e p = (least-none l s f (p .0), p .1)

@@ -1,0 +1,137 @@
+-- The waiting nodes of a tree's words, by how often each number stands in the queue.
+-- Assumes nothing.
+use mathlib.Core.Path.{_≡_, refl, sym, ap, _∙_, fun-ext}
+use mathlib.Core.Bool.{Bool, true, false, not, _&&_, _||_}
+use mathlib.Core.List.{List, [], _∷_, _++_, List·Memᴰ}
+use Prim.Native.Nat.{ℕ, zero, suc, _+_, _<_, _≤_}
+use native.Mathlib.Omega.{arith}
+use native.Mathlib.Nat.{add-zero, zero-add}
+use native.Mathlib.Numerals.{add-one}
+use native.Mathlib.Decide.{ℕ-discrete}
+use lib.Dec.{eqb, ltb}
+use lib.ListN.{length, getD, drop, length-drop}
+use lib.Seq.{take-suc, getD-drop}
+use borrow.Author.Tests.{lt-ltb, le-ltb, ltb-true, eq-eqb, ne-eqb}
+use Rattle.model.specs.Lists.{upFrom, numbers, keep, those, mem}
+use Rattle.model.specs.Tree.{without}
+use Rattle.model.proofs.Bools.{true-or-right}
+use Rattle.model.proofs.Lists.{numbers-has, those-mem, those-has}
+use Rattle.layout.specs.Layout.{queueAt, part}
+use Rattle.layout.specs.Read.{treeIn}
+use Rattle.queue.specs.Queue.{one, times}
+use Rattle.queue.proofs.Times.{one-same, one-other, times-place}
+use Rattle.tree.specs.Tree.{treeOf, Formed}
+
+-- ---- membership of the queue words as a count
+
+or-false : (b : Bool) → (b || false) ≡ b
+or-false true = refl
+or-false false = refl
+
+mem-snoc : (x y : ℕ) (l : List ℕ) → mem x (l ++ (y ∷ [])) ≡ (mem x l || eqb x y)
+unfolding mem
+mem-snoc x y [] = or-false (eqb x y)
+mem-snoc x y (z ∷ l) = go (eqb x z) (mem-snoc x y l)
+  where
+    go : (b : Bool) → mem x (l ++ (y ∷ [])) ≡ (mem x l || eqb x y) → (b || mem x (l ++ (y ∷ []))) ≡ ((b || mem x l) || eqb x y)
+    go true e = refl
+    go false e = e
+
+-- one word more
+more : (n w x : ℕ) → (ltb 0 n || eqb x w) ≡ ltb 0 (n + one w x)
+more n w x = elim (ℕ-discrete w x) [
+  | yes e ↦ true-or-right (ltb 0 n) (eqb x w) (eq-eqb x w (sym e)) ∙ sym (lt-ltb 0 (n + one w x) (omega (arith, one-same w x e)))
+  | no ne ↦ rw (ne-eqb x w (λ e. ne (sym e)), one-other w x ne, add-zero) (or-false (ltb 0 n))
+]
+
+pub mem-times : (t : List ℕ) (q n x : ℕ) → q + n ≤ length t → mem x (part q n t) ≡ ltb 0 (times t q n x)
+unfolding mem times
+mem-times t q zero x h = refl
+mem-times t q (suc n) x h =
+    ap (mem x) (take-suc (drop q t) n 0 (omega (arith, length-drop q t)))
+    ∙ mem-snoc x (getD (drop q t) n 0) (part q n t)
+    ∙ ap (λ (b : Bool). b || eqb x (getD (drop q t) n 0)) (mem-times t q n x (omega arith))
+    ∙ ap (λ (w : ℕ). ltb 0 (times t q n x) || eqb x w) (getD-drop q t n 0)
+    ∙ more (times t q n x) (getD t (q + n) 0) x
+
+-- ---- those numbers at which a test passes
+
+-- a test that fails at k too
+those-without : (p r : ℕ → Bool) (k : ℕ) → ((i : ℕ) → r i ≡ (not (eqb i k) && p i)) → (xs : List ℕ) → those r xs ≡ without k (those p xs)
+unfolding those without
+those-without p r k f [] = refl
+those-without p r k f (x ∷ xs) = rw (f x, those-without p r k f xs) (go (p x) (not (eqb x k)) refl)
+  where
+    go : (a b : Bool) → not (eqb x k) ≡ b → keep (b && a) x (without k (those p xs)) ≡ without k (keep a x (those p xs))
+    go true true e = rw (e, without)
+    go true false e = rw (e, without)
+    go false true e = refl
+    go false false e = refl
+
+-- a test that passes at the number after them too
+those-next : (p r : ℕ → Bool) (k n : ℕ) → ((i : ℕ) → i < n + k → r i ≡ p i) → r (n + k) ≡ true
+    → those r (upFrom (suc k) n) ≡ those p (upFrom k n) ++ ((n + k) ∷ [])
+unfolding those
+those-next p r zero n f e = let e′ : r n ≡ true = rw add-zero at e in rw (e′, add-zero)
+those-next p r (suc k) n f e =
+    let z : n + suc k ≡ suc n + k = omega arith in
+    let ih : those r (upFrom (suc k) (suc n)) ≡ those p (upFrom k (suc n)) ++ ((suc n + k) ∷ []) =
+    those-next p r k (suc n) (λ i h. f i (omega arith)) (rw z at e) in
+    rw (f n (omega arith), z, ih) (go (p n) (those p (upFrom k (suc n))) ((suc n + k) ∷ []))
+  where
+    go : (b : Bool) (xs ys : List ℕ) → keep b n (xs ++ ys) ≡ keep b n xs ++ ys
+    go true xs ys = refl
+    go false xs ys = refl
+
+-- ---- the waiting nodes of a tree
+
+-- how often x stands in the queue
+abbrev pub waits : ℕ → List ℕ → ℕ → ℕ
+waits l t x = times t (queueAt l) (getD t 2 0) x
+
+abbrev waitsb : ℕ → List ℕ → ℕ → Bool
+waitsb l t x = ltb 0 (waits l t x)
+
+waiting-is : (l : ℕ) (t : List ℕ) → queueAt l + getD t 2 0 ≤ length t → treeOf l t .waiting ≡ those (waitsb l t) (numbers (getD t 1 0))
+unfolding treeIn
+waiting-is l t h =
+    ap (λ (p : ℕ → Bool). those p (numbers (getD t 1 0))) (fun-ext (λ x. mem-times t (queueAt l) (getD t 2 0) x h))
+
+module _ (l : ℕ) (t : List ℕ) (h : queueAt l + getD t 2 0 ≤ length t) (x : ℕ) where
+  pub waiting-mem : List·Memᴰ x (treeOf l t .waiting) → 0 < waits l t x
+  waiting-mem m = ltb-true 0 (waits l t x) (those-mem (waitsb l t) (numbers (getD t 1 0)) x (rw (waiting-is l t h) at m) .1)
+
+  pub waiting-has : x < getD t 1 0 → 0 < waits l t x → List·Memᴰ x (treeOf l t .waiting)
+  waiting-has u w =
+      rw (waiting-is l t h) (those-has (waitsb l t) (numbers (getD t 1 0)) x (numbers-has (getD t 1 0) x u) (lt-ltb 0 (waits l t x) w))
+
+module _ (l : ℕ) (s t : List ℕ) (hs : queueAt l + getD s 2 0 ≤ length s) (ht : queueAt l + getD t 2 0 ≤ length t) where
+  -- node k was taken
+  pub waiting-popped : (k : ℕ) → getD t 1 0 ≡ getD s 1 0 → ((x : ℕ) → waits l t x + one k x ≡ waits l s x) → waits l s k ≤ 1
+      → treeOf l t .waiting ≡ without k (treeOf l s .waiting)
+  waiting-popped k u f once =
+      rw (waiting-is l t ht, u, waiting-is l s hs) (those-without (waitsb l s) (waitsb l t) k test (numbers (getD s 1 0)))
+    where
+      test : (x : ℕ) → waitsb l t x ≡ (not (eqb x k) && waitsb l s x)
+      test x = elim (ℕ-discrete x k) [
+        | yes e ↦ rw (eq-eqb x k e) (le-ltb 0 (waits l t x) (omega (arith, f x, one-same k x (sym e), ap (waits l s) e)))
+        | no ne ↦
+            let same : waits l t x ≡ waits l s x = omega (arith, f x, one-other k x (λ e. ne (sym e))) in
+            rw (ne-eqb x k ne, same)
+      ]
+
+  -- the node with the next number was queued
+  pub waiting-pushed : getD t 1 0 ≡ getD s 1 0 + 1 → ((x : ℕ) → waits l t x ≡ waits l s x + one (getD s 1 0) x)
+      → treeOf l t .waiting ≡ treeOf l s .waiting ++ (getD s 1 0 ∷ [])
+  waiting-pushed u f =
+      rw (waiting-is l t ht, u, add-one, waiting-is l s hs) (rw zero-add at (those-next (waitsb l s) (waitsb l t) (getD s 1 0) 0 test last))
+    where
+      test : (x : ℕ) → x < 0 + getD s 1 0 → waitsb l t x ≡ waitsb l s x
+      test x h = let same : waits l t x ≡ waits l s x = omega (arith, f x, one-other (getD s 1 0) x (omega arith)) in rw same
+
+      last : waitsb l t (0 + getD s 1 0) ≡ true
+      last = rw zero-add (lt-ltb 0 (waits l t (getD s 1 0)) (omega (arith, f (getD s 1 0), one-same (getD s 1 0) (getD s 1 0) refl)))
+
+-- what waits is a node
+pub waits-node : {l : ℕ} {t : List ℕ} → Formed l t → (x : ℕ) → 0 < waits l t x → x < getD t 1 0
+waits-node {l} {t} f x h = let i = times-place t (queueAt l) (getD t 2 0) x h in omega (arith, f .nodes (i .0) (i .1), i .2)

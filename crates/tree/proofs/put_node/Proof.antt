@@ -1,0 +1,43 @@
+-- `tree::put_node` meets its contract.
+-- Assumes nothing.
+use native.Mathlib.Omega.{arith}
+use borrow.Author.Needs.{needs}
+use lib.ListN.{length-set}
+use Rattle.layout.specs.Layout.{nodeAt}
+use Rattle.tree.proofs.Added.{sets-four}
+use Rattle.tree.proofs.put_node.Statement.{statement}
+use Rattle.tree.proofs.put_node.Tie as tie
+
+slice-write-tree-2 : tie.Need-slice-write-tree-2
+slice-write-tree-2 c = simp length-set (omega arith)
+
+slice-write-tree-3 : tie.Need-slice-write-tree-3
+slice-write-tree-3 c = simp length-set (omega arith)
+
+slice-write-tree-4 : tie.Need-slice-write-tree-4
+slice-write-tree-4 c = simp length-set (omega arith)
+
+returns : tie.Need-returns
+returns c =
+    let x = c .args .node in
+    sets-four (c .args .tree .now) (nodeAt (c .args .number)) (x .vertex) (x .cost) (x .parent) (x .edge)
+
+pub put-node-spec : {M : Type 1} → statement M
+put-node-spec =
+    tie.close
+    (tie.spec
+    (λ c. search needs)
+    (λ c. search needs)
+    (λ c. search needs)
+    (λ c. search needs)
+    (λ c. search needs)
+    (λ c. search needs)
+    slice-write-tree-2
+    (λ c. search needs)
+    (λ c. search needs)
+    slice-write-tree-3
+    (λ c. search needs)
+    (λ c. search needs)
+    slice-write-tree-4
+    (λ c. search needs)
+    returns)

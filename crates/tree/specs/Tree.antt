@@ -1,0 +1,115 @@
+-- What the functions on one tree's words promise each other.
+-- Assumes nothing.
+use mathlib.Core.Path.{_≡_}
+use mathlib.Core.Option.{none, some}
+use mathlib.Core.List.{List, [], _∷_}
+use Prim.Native.Nat.{ℕ, zero, suc, _+_, _-_, _<_, _≤_}
+use lib.ListN.{length, getD}
+use Rattle.model.specs.declared.Solution.{Solution}
+use Rattle.model.specs.declared.Solution.the-variants.{Unsolved, At}
+use Rattle.model.specs.Graph.{Domain}
+use Rattle.model.specs.Search.{cheapest, consider}
+use Rattle.model.specs.Tree.{Node, Tree, least, popped, close, closedAt}
+use Rattle.layout.specs.Layout.{nodeAt, queueAt, closedAt as closedWordsAt}
+use Rattle.layout.specs.Read.{treeIn}
+use Rattle.queue.specs.declared.Popped.{Popped}
+use Rattle.queue.specs.declared.Popped.the-variants.{Ticket, Empty}
+use Rattle.queue.specs.Queue.{times, rank, Heap}
+use Rattle.tree.specs.declared.Node.{Node as NodeWords}
+use Rattle.tree.specs.declared.partial_keyed_closed_set.ClosedStatus.{ClosedStatus}
+use Rattle.tree.specs.declared.partial_keyed_closed_set.ClosedStatus.the-variants.{Open, Closed}
+use Rattle.tree.specs.declared.partial_keyed_closed_set.CloseResult.{CloseResult}
+use Rattle.tree.specs.declared.partial_keyed_closed_set.CloseResult.the-variants.{Accepted, Rejected}
+
+-- the tree that its own words hold; all words behind the queue are closed words
+abbrev pub treeOf : ℕ → List ℕ → Tree
+treeOf l t = treeIn (length t - closedWordsAt l) l t
+
+abbrev pub nodeOf : NodeWords → Node
+nodeOf x = record { vertex = x .vertex; cost = x .cost; parent = x .parent; edge = x .edge }
+
+-- what every call finds and leaves: nodes and queue words within their areas, queue words distinct nodes in heap order, closed words
+-- nodes, unused words 0
+pub record Formed (l : ℕ) (t : List ℕ) : Type 0 where
+  pub edges : l ≤ 2048
+  pub fits : closedWordsAt l ≤ length t
+  pub vertices : length t ≤ closedWordsAt l + 1024
+  pub used : getD t 1 0 ≤ 1 + l
+  pub queued : getD t 2 0 ≤ getD t 1 0
+  pub nodes : (i : ℕ) → i < getD t 2 0 → getD t (queueAt l + i) 0 < getD t 1 0
+  pub once : (x : ℕ) → times t (queueAt l) (getD t 2 0) x ≤ 1
+  pub heap : Heap (rank t (queueAt l)) (getD t 2 0)
+  pub closers : (v : ℕ) → closedWordsAt l + v < length t → getD t (closedWordsAt l + v) 0 ≤ getD t 1 0
+  pub spare-nodes : (i : ℕ) → nodeAt (getD t 1 0) ≤ i → i < queueAt l → getD t i 0 ≡ 0
+  pub spare-queue : (i : ℕ) → queueAt l + getD t 2 0 ≤ i → i < closedWordsAt l → getD t i 0 ≡ 0
+
+-- v is one of the vertices
+abbrev pub HasVertex : ℕ → List ℕ → ℕ → Type 0
+HasVertex l t v = closedWordsAt l + v < length t
+
+-- ---- taking the first node
+
+-- t is s with its first ticket, for node k, taken; the queue has m words then
+pub record Pops (l : ℕ) (s t : List ℕ) (k m : ℕ) : Type 0 where
+  pub first : least (treeOf l s .nodes) (treeOf l s .waiting) ≡ some k
+  pub tree : treeOf l t ≡ popped (treeOf l s) k
+  pub formed : Formed l t
+  pub node : k < getD t 1 0
+  pub left : getD t 2 0 ≡ m
+
+abbrev pub PopIs : ℕ → List ℕ → List ℕ → Popped → Type 0
+PopIs l s t (Ticket k m) = Pops l s t k m
+PopIs l s t Empty = (least (treeOf l s .nodes) (treeOf l s .waiting) ≡ none) × (t ≡ s)
+
+-- ---- the closed set
+
+-- a closed word: 0, or one more than the node
+abbrev pub statusOf : ℕ → ClosedStatus
+statusOf zero = Open
+statusOf (suc n) = Closed n
+
+pub record CanClose (l : ℕ) (t : List ℕ) (v n : ℕ) : Type 0 where
+  pub formed : Formed l t
+  pub vertex : HasVertex l t v
+  pub node : n < getD t 1 0
+
+pub record Closes (l : ℕ) (s t : List ℕ) (v n : ℕ) : Type 0 where
+  pub before : closedAt (treeOf l s .closed) v ≡ 0
+  pub tree : treeOf l t ≡ close (treeOf l s) v n
+  pub formed : Formed l t
+
+abbrev pub CloseIs : ℕ → List ℕ → List ℕ → ℕ → ℕ → CloseResult → Type 0
+CloseIs l s t v n Accepted = Closes l s t v n
+CloseIs l s t v n Rejected = (0 < closedAt (treeOf l s .closed) v) × (t ≡ s)
+
+-- each goal is one of the vertices
+abbrev pub HasGoals : ℕ → List ℕ → List ℕ → Type 0
+HasGoals l t gs = (i : ℕ) → i < length gs → HasVertex l t (getD gs i 0)
+
+-- a solution is a node
+abbrev pub HasSolution : List ℕ → Solution → Type 0
+HasSolution t Unsolved = Unit {0}
+HasSolution t (At n) = n < getD t 1 0
+
+-- of any domain: what a solution is worth does not depend on it
+abbrev pub CheapestIs : ℕ → List ℕ → List ℕ → Solution → Type 0
+CheapestIs l t gs r = (d : Domain) → r ≡ cheapest d (treeOf l t .nodes) (treeOf l t .closed) gs Unsolved
+
+pub record Considers (l : ℕ) (t : List ℕ) (o : Solution) (v : ℕ) (r : Solution) : Type 0 where
+  pub node : HasSolution t r
+  pub solution : (d : Domain) → r ≡ consider d (treeOf l t .nodes) o (closedAt (treeOf l t .closed) v)
+
+-- ---- a node more
+
+pub record CanAdd (l : ℕ) (t : List ℕ) : Type 0 where
+  pub formed : Formed l t
+  pub room : getD t 1 0 < 1 + l
+
+pub record CanPushNode (l : ℕ) (t : List ℕ) (x : NodeWords) : Type 0 where
+  pub add : CanAdd l t
+  pub vertex : HasVertex l t (x .vertex)
+
+-- t is a tree's words that hold the tree u
+pub record Holds (l : ℕ) (t : List ℕ) (u : Tree) : Type 0 where
+  pub tree : treeOf l t ≡ u
+  pub formed : Formed l t

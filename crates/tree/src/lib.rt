@@ -1,0 +1,70 @@
+// One tree's words, handed on as a part of the cache's: the Rust's `Tree`. `edges` says where the queue and the closed words start.
+pub mod partial_keyed_closed_set;
+
+use crate::partial_keyed_closed_set::ClosedStatus;
+use crate::partial_keyed_closed_set::status;
+use layout::wide;
+use queue::Popped;
+ghost use mathlib.Core.Path.{_≡_};
+ghost use mathlib.Core.List.{_∷_, []};
+ghost use Prim.Native.Nat.{_+_, _≤_};
+ghost use lib.ListN.{length, getD};
+ghost use lib.Seq.{sets};
+ghost use Rattle.model.specs.Tree.{appended, pushNode};
+ghost use Rattle.layout.specs.Layout.{nodeAt};
+ghost use Rattle.tree.specs.Tree.{treeOf, nodeOf, Formed, PopIs, CanAdd, CanPushNode, Holds};
+
+// A node's words.
+pub struct Node {
+    pub vertex: u32,
+    pub cost: u32,
+    pub parent: u32,
+    pub edge: u32,
+}
+
+// Adds a node and its ticket, unless its vertex is closed at no greater cost.
+pub fn push_node(tree: &mut [u32], edges: usize, node: Node)
+    requires { ⌜ CanPushNode edges (now tree) node ⌝ }
+    ensures { λ _. ⌜ Holds edges (now (tree .exit)) (pushNode (treeOf edges (now (tree .entry))) (nodeOf node)) ⌝ }
+{
+    match status(tree, edges, wide(node.vertex)) {
+        ClosedStatus::Open => {}
+        ClosedStatus::Closed(prior) => {
+            if queue::evaluation(tree, prior) <= node.cost {
+                return;
+            }
+        }
+    }
+    add_node(tree, edges, node);
+}
+
+// The node with the next number, and its ticket.
+fn add_node(tree: &mut [u32], edges: usize, node: Node)
+    requires { ⌜ CanAdd edges (now tree) ⌝ }
+    ensures { λ _. ⌜ Holds edges (now (tree .exit)) (appended (treeOf edges (now (tree .entry))) (nodeOf node)) ⌝ }
+{
+    let number = tree[layout::NODES];
+    put_node(tree, wide(number), node);
+    tree[layout::NODES] = number + 1;
+    queue::push(tree, layout::queue_at(edges), number);
+}
+
+// Writes the four words of a node.
+pub fn put_node(tree: &mut [u32], number: usize, node: Node)
+    requires { ⌜ nodeAt number + 4 ≤ length (now tree) ⌝ }
+    ensures { λ _. ⌜ now (tree .exit) ≡ sets (now (tree .entry)) (nodeAt number) (node .vertex ∷ node .cost ∷ node .parent ∷ node .edge ∷ []) ⌝ }
+{
+    let at = layout::NODES_AT + 4 * number;
+    tree[at] = node.vertex;
+    tree[at + 1] = node.cost;
+    tree[at + 2] = node.parent;
+    tree[at + 3] = node.edge;
+}
+
+// Takes the first ticket from the queue.
+pub fn pop(tree: &mut [u32], edges: usize) -> Popped
+    requires { ⌜ Formed edges (now tree) ⌝ }
+    ensures { λ r. ⌜ PopIs edges (now (tree .entry)) (now (tree .exit)) r ⌝ }
+{
+    queue::pop(tree, layout::queue_at(edges))
+}

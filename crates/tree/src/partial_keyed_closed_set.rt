@@ -1,0 +1,92 @@
+// The closed words of a tree, one for each vertex: the Rust's `PartialKeyedClosedSet`, of which every vertex is a key.
+use layout::wide;
+use model::Solution;
+ghost use mathlib.Core.Path.{_≡_};
+ghost use lib.ListN.{length, getD};
+ghost use Rattle.model.specs.Tree.{closedAt};
+ghost use Rattle.model.specs.Search.{closedCount};
+ghost use Rattle.tree.specs.Tree.{treeOf, Formed, HasVertex, HasGoals, HasSolution, statusOf, CanClose, CloseIs, CheapestIs, Considers};
+
+pub enum ClosedStatus {
+    Open,
+    Closed(u32),
+}
+
+pub enum CloseResult {
+    Accepted,
+    Rejected,
+}
+
+// Closes a vertex by a node, unless it is closed already.
+pub fn close(tree: &mut [u32], edges: usize, vertex: usize, node: u32) -> CloseResult
+    requires { ⌜ CanClose edges (now tree) vertex node ⌝ }
+    ensures { λ r. ⌜ CloseIs edges (now (tree .entry)) (now (tree .exit)) vertex node r ⌝ }
+{
+    let place = layout::closed_at(edges) + vertex;
+    if tree[place] != 0 {
+        return CloseResult::Rejected;
+    }
+    tree[place] = node + 1;
+    CloseResult::Accepted
+}
+
+// The node that closed a vertex, if one did.
+pub fn status(tree: &[u32], edges: usize, vertex: usize) -> ClosedStatus
+    requires { ⌜ Formed edges (now tree) × HasVertex edges (now tree) vertex ⌝ }
+    ensures { λ r. ⌜ r ≡ statusOf (closedAt (treeOf edges (now (tree .entry)) .closed) vertex) ⌝ }
+{
+    let word = tree[layout::closed_at(edges) + vertex];
+    if word == 0 {
+        return ClosedStatus::Open;
+    }
+    ClosedStatus::Closed(word - 1)
+}
+
+// How many vertices are closed, counted from the closed words.
+pub fn closed_keys_len(tree: &[u32], edges: usize) -> usize
+    requires { ⌜ Formed edges (now tree) ⌝ }
+    ensures { λ r. ⌜ r ≡ closedCount (treeOf edges (now (tree .entry)) .closed) ⌝ }
+{
+    let mut count = 0;
+    let mut place = layout::closed_at(edges);
+    while place < tree.len() {
+        if tree[place] != 0 {
+            count += 1;
+        }
+        place += 1;
+    }
+    count
+}
+
+// The cheapest closed goal, the first in the list on ties, as the node that closed it.
+pub fn cheapest_goal(tree: &[u32], edges: usize, goals: &[u32]) -> Solution
+    requires { ⌜ Formed edges (now tree) × HasGoals edges (now tree) (now goals) ⌝ }
+    ensures { λ r. ⌜ CheapestIs edges (now (tree .entry)) (now (goals .entry)) r ⌝ }
+{
+    let mut best = Solution::Unsolved;
+    let mut i = 0;
+    while i < goals.len() {
+        best = cheaper_goal(tree, edges, best, wide(goals[i]));
+        i += 1;
+    }
+    best
+}
+
+// The solution held, or the node that closed a vertex if that is cheaper.
+fn cheaper_goal(tree: &[u32], edges: usize, best: Solution, vertex: usize) -> Solution
+    requires { ⌜ Formed edges (now tree) × (HasVertex edges (now tree) vertex × HasSolution (now tree) best) ⌝ }
+    ensures { λ r. ⌜ Considers edges (now (tree .entry)) best vertex r ⌝ }
+{
+    match status(tree, edges, vertex) {
+        ClosedStatus::Open => best,
+        ClosedStatus::Closed(node) => match best {
+            Solution::Unsolved => Solution::At(node),
+            Solution::At(held) => {
+                if queue::evaluation(tree, node) < queue::evaluation(tree, held) {
+                    return Solution::At(node);
+                }
+                best
+            }
+        },
+    }
+}
