@@ -25,7 +25,7 @@ direction-of forward = refl
 direction-of backward = refl
 
 -- a direction within its limit is its own word
-word-of : (d : ℕ) → d ≤ 1 → directionWord (directionOf d) ≡ d
+pub word-of : (d : ℕ) → d ≤ 1 → directionWord (directionOf d) ≡ d
 word-of zero h = refl
 word-of (suc zero) h = refl
 word-of (suc (suc d)) h = absurd (omega arith)

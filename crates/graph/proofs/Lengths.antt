@@ -30,7 +30,7 @@ order-below backward g i h =
     numbers-mem (edgeCount g) _
     (gathered-mem (to g) (edgesInUse g) (vertexCount g) _ (getD-mem (gathered (to g) (edgesInUse g) (vertexCount g)) i h))
 
-numbers-length : (dir : Direction) (g : Graph) → Accepted g → length (edgeNumbers (record { direction = dir; graph = g })) ≡ edgeCount g
+pub numbers-length : (dir : Direction) (g : Graph) → Accepted g → length (edgeNumbers (record { direction = dir; graph = g })) ≡ edgeCount g
 unfolding edgeNumbers
 numbers-length dir g ok =
     ap length (choices-gathered dir g (vertexCount g))

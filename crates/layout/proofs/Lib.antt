@@ -4,3 +4,4 @@ pub mod Places
 pub mod Sizes
 pub mod Trees
 pub mod Same
+pub mod Examples

@@ -1,0 +1,112 @@
+-- A slot that holds another sound tree of the same start: the words stay sound, and the cache that they hold differs in that tree alone.
+-- Assumes nothing.
+use mathlib.Core.Path.{_≡_, refl, sym, ap, _∙_}
+use mathlib.Core.Logic.{inl, inr, _≢_}
+use mathlib.Core.List.{List}
+use Prim.Native.Nat.{ℕ, _+_, _<_}
+use native.Mathlib.Omega.{arith}
+use native.Mathlib.Decide.{ℕ-discrete, decLt}
+use lib.ListN.{length, getD, set, drop, length-set, length-take, length-drop}
+use lib.Seq.{ext-getD, getD-set-same, getD-set-other}
+use Rattle.model.specs.Tree.{Tree}
+use Rattle.model.specs.Sound.{Sound, noTree}
+use Rattle.model.specs.Calls.{withTrees}
+use Rattle.layout.specs.Layout.{treeWords, slotsAt, slotAt, part}
+use Rattle.layout.specs.Read.{treeIn, treesIn, domainOf, readCache}
+use Rattle.layout.specs.Sound.{slotWords}
+use Rattle.tree.specs.Tree.{Formed}
+use Rattle.tree.proofs.Parts.{part-at}
+use Rattle.sound.specs.Facts.{SoundIn, SoundWords}
+use Rattle.sound.proofs.Slots.{slot-before, tree-in-at, trees-in-length}
+use Rattle.grow.specs.Grow.{slotOf, treeAt, Ready, Holds}
+use Rattle.grow.proofs.Slots.{ready-after, domain-after}
+
+-- ---- words that stayed
+
+part-alike : (a n : ℕ) (s t : List ℕ) → length t ≡ length s → ((j : ℕ) → j < n → getD t (a + j) 0 ≡ getD s (a + j) 0) → part a n t ≡ part a n s
+part-alike a n s t e f =
+    ext-getD 0 (part a n t) (part a n s) (rw (length-take n (drop a t), length-take n (drop a s), length-drop a t, length-drop a s, e)) (λ i h.
+    let k : i < n = omega (arith, length-take n (drop a t)) in
+    part-at a n t i k ∙ f i k ∙ sym (part-at a n s i k))
+
+pub slot-ready : (ws : List ℕ) (i : ℕ) → SoundWords ws → i < getD ws 4 0 → Ready (slotOf ws i) ws
+slot-ready ws i ok used =
+    record {
+      slot = record { few = omega (arith, ok .slots, ok .used); at = refl; end = refl };
+      held = ok .held;
+      fits =
+          let below : i < getD ws 3 0 = omega (arith, ok .used) in
+          omega (arith, ok .fits, slot-before (getD ws 1 0) (getD ws 2 0) below);
+      formed = ok .formed i used;
+    }
+
+module _ (ws left : List ℕ) (i : ℕ) (u : Tree) (ok : SoundWords ws) (used : i < getD ws 4 0) (h : Holds (slotOf ws i) ws left u) where
+  abbrev m : ℕ
+  m = getD ws 1 0
+
+  abbrev l : ℕ
+  l = getD ws 2 0
+
+  ready : Ready (slotOf ws i) ws
+  ready = slot-ready ws i ok used
+
+  below : (j : ℕ) → j < slotsAt m l → getD left j 0 ≡ getD ws j 0
+  below j b = h .outside .word j (inl (omega arith))
+
+  other : (j : ℕ) → j ≢ i → slotWords m l j left ≡ slotWords m l j ws
+  other j ne = part-alike (slotAt m l j) (treeWords m l) ws left (h .outside .len) (λ n b. h .outside .word (slotAt m l j + n) (elim (decLt j i) [
+    | yes k ↦ inl (omega (arith, slot-before m l k))
+    | no k ↦ let more : i < j = omega arith in inr (omega (arith, slot-before m l more))
+  ]))
+
+  -- what is known of the words of each slot: of slot i as it is, of the others as it was
+  at-slot : (P : ℕ → List ℕ → Type 0) → P i (slotWords m l i left) → ((j : ℕ) → j < getD ws 4 0 → P j (slotWords m l j ws)) → (j : ℕ) → j < getD ws 4 0 → P j (slotWords m l j left)
+  at-slot P p q j b = elim (ℕ-discrete j i) [ yes e ↦ rw e p | no ne ↦ rw (other j ne) (q j b) ]
+
+  module _ (good : Sound (domainOf m l ws) u) (start : u .start ≡ treeAt (slotOf ws i) ws .start) where
+    domain : domainOf m l left ≡ domainOf m l ws
+    domain = domain-after ready h
+
+    starts : (j : ℕ) → j < getD ws 4 0 → getD (slotWords m l j left) 0 0 ≡ getD (slotWords m l j ws) 0 0
+    unfolding treeIn
+    starts j b = at-slot (λ (x : ℕ) (t : List ℕ). getD t 0 0 ≡ getD (slotWords m l x ws) 0 0) (ap (λ (t : Tree). t .start) (h .tree) ∙ start) (λ x c. refl) j b
+
+    kept-sound : SoundIn m l (getD ws 3 0) (getD ws 4 0) left
+    kept-sound =
+        record {
+          header = omega (arith, ok .header, h .outside .len);
+          direction = rw (below 0 (omega arith)) (ok .direction);
+          some-slot = ok .some-slot;
+          slots = ok .slots;
+          used = ok .used;
+          fits = omega (arith, ok .fits, h .outside .len);
+          held = ready-after ready h .held;
+          differ = λ x y a b e. ok .differ x y a b (sym (starts x a) ∙ e ∙ starts y b);
+          formed = at-slot (λ (x : ℕ) (t : List ℕ). Formed l t) (h .formed) (ok .formed);
+          sound = rw domain (at-slot (λ (x : ℕ) (t : List ℕ). Sound (domainOf m l ws) (treeIn m l t)) (rw (h .tree) good) (ok .sound));
+          spare = λ j a b. h .outside .word j (inr (omega (arith, slot-before m l used))) ∙ ok .spare j a b;
+        }
+
+    kept-words : SoundWords left
+    kept-words = rw (below 1 (omega arith), below 2 (omega arith), below 3 (omega arith), below 4 (omega arith)) kept-sound
+
+    kept-trees : treesIn m l (getD ws 4 0) left ≡ set (treesIn m l (getD ws 4 0) ws) i u
+    kept-trees =
+        let n : ℕ = getD ws 4 0 in
+        let old : List Tree = treesIn m l n ws in
+        ext-getD noTree (treesIn m l n left) (set old i u) (trees-in-length m l n left ∙ sym (length-set old i u ∙ trees-in-length m l n ws)) (λ j b.
+        let c : j < n = omega (arith, trees-in-length m l n left) in
+        tree-in-at m l left c
+        ∙ elim (ℕ-discrete j i) [
+          | yes e ↦ rw e (h .tree ∙ sym (getD-set-same old i u noTree (omega (arith, trees-in-length m l n ws))))
+          | no ne ↦ ap (treeIn m l) (other j ne) ∙ sym (getD-set-other old i j u noTree ne ∙ tree-in-at m l ws c)
+        ])
+
+    kept-cache : readCache left ≡ withTrees (readCache ws) (set (readCache ws .trees) i u)
+    unfolding readCache
+    kept-cache =
+        rw (below 1 (omega arith), below 2 (omega arith), below 3 (omega arith), below 4 (omega arith))
+        (λ x. record { domain = domain x; slots = getD ws 3 0; trees = kept-trees x })
+
+    pub kept : SoundWords left × (readCache left ≡ withTrees (readCache ws) (set (readCache ws .trees) i u))
+    kept = (kept-words, kept-cache)

@@ -1,0 +1,111 @@
+-- The words of a slot: what they are after a part was lent and has come back, and that the graph's words stay.
+-- Assumes nothing.
+use mathlib.Core.Path.{_≡_, refl, sym, ap, ap₂, subst, _∙_}
+use mathlib.Core.Logic.{inl, inr}
+use mathlib.Core.List.{List}
+use Prim.Native.Nat.{ℕ, _+_, _-_, _<_, _≤_}
+use native.Mathlib.Omega.{arith}
+use lib.ListN.{length, getD, drop}
+use lib.Seq.{getD-take, getD-drop}
+use borrow.Rule.Slice.PartMut.{putMid, midOf, take-put, drop-put}
+use Rattle.model.specs.Tree.{Tree}
+use Rattle.layout.specs.Layout.{slotsAt, slotAt, treeWords, closedAt}
+use Rattle.layout.specs.Read.{treeIn}
+use Rattle.graph.proofs.Parts.{mid-put, put-length}
+use Rattle.tree.specs.Tree.{Formed, treeOf}
+use Rattle.tree.proofs.Parts.{part-length}
+use Rattle.sound.proofs.Held.{domain-same, held-same}
+use Rattle.grow.specs.declared.Slot.{Slot}
+use Rattle.grow.specs.Grow.{SlotIs, wordsIn, treeAt, domainAt, Ready, Outside, Holds}
+
+-- ---- the words of a slot
+
+pub slot-length : {s : Slot} {ws : List ℕ} → Ready s ws → length (wordsIn s ws) ≡ treeWords (s .vertices) (s .edges)
+slot-length {s} {ws} r =
+    part-length (slotAt (s .vertices) (s .edges) (s .number)) (treeWords (s .vertices) (s .edges)) ws (omega (arith, r .fits, r .slot .end))
+
+-- the part that is lent
+pub mid-slot : {s : Slot} → SlotIs s → (ws : List ℕ) → midOf (s .at) (s .end - s .at) ws ≡ wordsIn s ws
+mid-slot {s} h ws =
+    let size : s .end - s .at ≡ treeWords (s .vertices) (s .edges) = omega (arith, h .at, h .end) in
+    ap₂ (λ (a n : ℕ). midOf a n ws) (h .at) size
+
+-- all words behind the queue are closed words
+tree-of : (m l : ℕ) (ys : List ℕ) → length ys ≡ treeWords m l → treeOf l ys ≡ treeIn m l ys
+tree-of m l ys n =
+    let all : length ys - closedAt l ≡ m = omega (arith, n) in
+    ap (λ (k : ℕ). treeIn k l ys) all
+
+pub tree-at : {s : Slot} {ws : List ℕ} → Ready s ws → treeOf (s .edges) (wordsIn s ws) ≡ treeAt s ws
+tree-at {s} {ws} r = tree-of (s .vertices) (s .edges) (wordsIn s ws) (slot-length r)
+
+-- ---- a part that came back
+
+module _ (l ys : List ℕ) (a e : ℕ) (ae : a ≤ e) (el : e ≤ length l) (n : length ys ≡ e - a) where
+  put-below : (j : ℕ) → j < a → getD (putMid a (e - a) l ys) j 0 ≡ getD l j 0
+  put-below j h =
+      sym (getD-take a (putMid a (e - a) l ys) j 0 h)
+      ∙ ap (λ (x : List ℕ). getD x j 0) (take-put a (e - a) l ys (omega arith))
+      ∙ getD-take a l j 0 h
+
+  put-above : (j : ℕ) → e ≤ j → getD (putMid a (e - a) l ys) j 0 ≡ getD l j 0
+  put-above j h = tail (putMid a (e - a) l ys) ∙ ap (λ (x : List ℕ). getD x (j - e) 0) (drop-put a e l ys ae el n) ∙ sym (tail l)
+    where
+      tail : (x : List ℕ) → getD x j 0 ≡ getD (drop e x) (j - e) 0
+      tail x =
+          let at : j ≡ e + (j - e) = omega arith in
+          ap (λ (i : ℕ). getD x i 0) at ∙ sym (getD-drop e x (j - e) 0)
+
+pub put-holds : {s : Slot} {ws : List ℕ} {u : Tree} → Ready s ws → (ys : List ℕ) → length ys ≡ length (wordsIn s ws) → Formed (s .edges) ys → treeOf (s .edges) ys ≡ u
+    → Holds s ws (putMid (s .at) (s .end - s .at) ws ys) u
+put-holds {s} {ws} {u} r ys same formed tree = record {
+  outside = record {
+    len = put-length ws ys (s .at) (s .end) ae (r .fits) n;
+    word = λ j h. elim h [
+      | inl b ↦ put-below ws ys (s .at) (s .end) ae (r .fits) n j (omega (arith, r .slot .at))
+      | inr b ↦ put-above ws ys (s .at) (s .end) ae (r .fits) n j (omega (arith, r .slot .end))
+    ];
+  };
+  formed = subst (Formed (s .edges)) (sym words) formed;
+  tree = ap (treeIn (s .vertices) (s .edges)) words ∙ sym (tree-of (s .vertices) (s .edges) ys size) ∙ tree;
+}
+  where
+    ae : s .at ≤ s .end
+    ae = omega (arith, r .slot .at, r .slot .end)
+
+    size : length ys ≡ treeWords (s .vertices) (s .edges)
+    size = same ∙ slot-length r
+
+    n : length ys ≡ s .end - s .at
+    n = omega (arith, size, r .slot .at, r .slot .end)
+
+    words : wordsIn s (putMid (s .at) (s .end - s .at) ws ys) ≡ ys
+    words = sym (mid-slot (r .slot) (putMid (s .at) (s .end - s .at) ws ys)) ∙ mid-put ws ys (s .at) (s .end) ae (r .fits) n
+
+-- ---- one change after the other
+
+pub outside-trans : {m l i : ℕ} {ws mid left : List ℕ} → Outside m l i ws mid → Outside m l i mid left → Outside m l i ws left
+outside-trans a b = record { len = b .len ∙ a .len; word = λ j h. b .word j h ∙ a .word j h }
+
+pub holds-trans : {s : Slot} {ws mid left : List ℕ} {u v : Tree} → Holds s ws mid u → Holds s mid left v → Holds s ws left v
+holds-trans a b = record { outside = outside-trans (a .outside) (b .outside); formed = b .formed; tree = b .tree }
+
+pub holds-refl : {s : Slot} {ws : List ℕ} → Ready s ws → Holds s ws ws (treeAt s ws)
+holds-refl r = record { outside = record { len = refl; word = λ j h. refl }; formed = r .formed; tree = refl }
+
+-- ---- the graph's words stand before all slots
+
+module _ {s : Slot} {ws left : List ℕ} {u : Tree} (r : Ready s ws) (h : Holds s ws left u) where
+  graph-stays : (j : ℕ) → j < slotsAt (s .vertices) (s .edges) → getD left j 0 ≡ getD ws j 0
+  graph-stays j b = h .outside .word j (inl (omega arith))
+
+  pub ready-after : Ready s left
+  ready-after = record {
+    slot = r .slot;
+    held = held-same (s .vertices) (s .edges) ws left (h .outside .len) graph-stays (r .held);
+    fits = omega (arith, r .fits, h .outside .len);
+    formed = h .formed;
+  }
+
+  pub domain-after : domainAt s left ≡ domainAt s ws
+  domain-after = domain-same (s .vertices) (s .edges) ws left (h .outside .len) graph-stays (r .held .fits)

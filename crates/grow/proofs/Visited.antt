@@ -1,0 +1,130 @@
+-- Visiting a node: its vertex is closed already, or the node closes it and its edges are queued.
+-- Assumes nothing.
+use mathlib.Core.Path.{_≡_, sym, ap, ap₂, _∙_, subst}
+use mathlib.Core.Bool.{Bool, true, false, not}
+use mathlib.Core.List.{List}
+use Prim.Native.Nat.{ℕ, _+_, _-_}
+use native.Mathlib.Omega.{arith}
+use lib.ListN.{length, getD}
+use borrow.Author.Tests.{eq-eqb, ne-eqb}
+use borrow.Rule.Slice.PartMut.{putMid, midOf, put-same}
+use Rattle.model.specs.declared.CostBound.{CostBound}
+use Rattle.model.specs.Lists.{mem}
+use Rattle.model.specs.Graph.{Domain, choices}
+use Rattle.model.specs.Tree.{Node, Tree, node, closedAt, close, pushAll, expanded, above, goingOn}
+use Rattle.layout.specs.Layout.{nodeAt}
+use Rattle.layout.proofs.Trees.{nodeIn, tree-nodes, tree-node}
+use Rattle.tree.specs.Tree.{treeOf, CanClose, Closes, CloseIs}
+use Rattle.tree.specs.declared.partial_keyed_closed_set.CloseResult.{CloseResult}
+use Rattle.tree.specs.declared.partial_keyed_closed_set.CloseResult.the-variants.{Accepted, Rejected}
+use Rattle.grow.specs.declared.Slot.{Slot}
+use Rattle.grow.specs.declared.Going.{Going}
+use Rattle.grow.specs.declared.Going.the-variants.{On}
+use Rattle.grow.specs.Grow.{isClosed, wordsIn, treeAt, domainAt, Holds, CanPushChoices, CanVisit, visitedIf, goingIf, GoesOn, Visits}
+use Rattle.grow.proofs.Slots.{slot-length, mid-slot, tree-at, put-holds, holds-refl, holds-trans, ready-after, domain-after}
+
+module _ {s : Slot} {ws : List ℕ} {n : ℕ} (h : CanVisit s ws n) where
+  abbrev lent : List ℕ
+  lent = midOf (s .at) (s .end - s .at) ws
+
+  part : lent ≡ wordsIn s ws
+  part = mid-slot (h .ready .slot) ws
+
+  abbrev tree : Tree
+  tree = treeAt s ws
+
+  tree-lent : treeOf (s .edges) lent ≡ tree
+  tree-lent = ap (treeOf (s .edges)) part ∙ tree-at (h .ready)
+
+  abbrev it : Node
+  it = node (tree .nodes) n
+
+  node-words : it ≡ nodeIn (wordsIn s ws) (nodeAt n)
+  node-words = tree-node (s .vertices) (s .edges) (wordsIn s ws) n (h .used)
+
+  -- v: the vertex read off its word
+  module _ {i v : ℕ} (at : i ≡ n) (read : v ≡ getD lent (nodeAt i + 0) 0) where
+    vertex-is : v ≡ it .vertex
+    vertex-is =
+        let place : nodeAt i + 0 ≡ nodeAt n = omega arith in
+        read ∙ ap₂ (λ (t : List ℕ) (p : ℕ). getD t p 0) part place ∙ sym (ap (λ (x : Node). x .vertex) node-words)
+
+    module _ {w : ℕ} (wide : w ≡ v) where
+      pub can-close : CanClose (s .edges) lent w n
+      can-close = subst (λ (t : List ℕ). CanClose (s .edges) t w n) (sym part) (record {
+        formed = h .ready .formed;
+        vertex = omega (arith, slot-length (h .ready), h .vertex, vertex-is);
+        node = h .used;
+      })
+
+      word-is : closedAt (treeOf (s .edges) lent .closed) w ≡ closedAt (tree .closed) (it .vertex)
+      word-is = ap₂ (λ (t : Tree) (x : ℕ). closedAt (t .closed) x) tree-lent (wide ∙ vertex-is)
+
+      -- ys: the words that came back
+      module _ (ys : List ℕ) (r : CloseResult) (closing : CloseIs (s .edges) lent ys w n r) where
+        abbrev back : List ℕ
+        back = putMid (s .at) (s .end - s .at) ws ys
+
+        pub visit-closed : r ≡ Rejected → (gs : List ℕ) (b : CostBound) → Visits s ws back n gs b On
+        visit-closed e gs b =
+            let c : CloseIs (s .edges) lent ys w n Rejected = rw e at closing in
+            let same : back ≡ ws = ap (putMid (s .at) (s .end - s .at) ws) (c .1) ∙ put-same (s .at) (s .end - s .at) ws in
+            let is : isClosed tree n ≡ true = ap not (ne-eqb (closedAt (tree .closed) (it .vertex)) 0 (omega (arith, c .0, word-is))) in
+            subst (λ (left : List ℕ). Visits s ws left n gs b On) (sym same) (record {
+              holds = subst (λ (x : Bool). Holds s ws ws (visitedIf x (domainAt s ws) tree n)) (sym is) (holds-refl (h .ready));
+              going = sym (ap (λ (x : Bool). goingIf x gs b tree n) is);
+            })
+
+        -- k: the cost read off its word
+        module _ (e : r ≡ Accepted) (len : length ys ≡ length lent) {j k : ℕ} (again : j ≡ n) (reads : k ≡ getD lent (nodeAt j + 1) 0) where
+          cost-is : k ≡ it .cost
+          cost-is =
+              let place : nodeAt j + 1 ≡ nodeAt n + 1 = omega arith in
+              reads ∙ ap₂ (λ (t : List ℕ) (p : ℕ). getD t p 0) part place ∙ sym (ap (λ (x : Node). x .cost) node-words)
+
+          closes : Closes (s .edges) lent ys w n
+          closes = rw e at closing
+
+          is-open : isClosed tree n ≡ false
+          is-open = ap not (eq-eqb (closedAt (tree .closed) (it .vertex)) 0 (sym word-is ∙ closes .before))
+
+          closed : Holds s ws back (close tree (it .vertex) n)
+          closed =
+              put-holds (h .ready) ys (len ∙ ap length part) (closes .formed)
+              (closes .tree ∙ ap₂ (λ (t : Tree) (x : ℕ). close t x n) tree-lent (wide ∙ vertex-is))
+
+          domain : domainAt s back ≡ domainAt s ws
+          domain = domain-after (h .ready) closed
+
+          used : getD (wordsIn s back) 1 0 ≡ getD (wordsIn s ws) 1 0
+          unfolding close
+          used =
+              sym (tree-nodes (s .vertices) (s .edges) (wordsIn s back))
+              ∙ ap (λ (t : Tree). length (t .nodes)) (closed .tree)
+              ∙ tree-nodes (s .vertices) (s .edges) (wordsIn s ws)
+
+          pub can-push-choices : CanPushChoices s back v k
+          can-push-choices = record {
+            ready = ready-after (h .ready) closed;
+            vertex = omega (arith, h .vertex, vertex-is);
+            cost = omega (arith, h .cost, cost-is);
+            room = rw (used, domain, vertex-is) (h .room is-open);
+          }
+
+          pub visit-open : (left : List ℕ) (gs : List ℕ) (b : CostBound) (g : Going)
+              → Holds s back left (pushAll (domainAt s back) n k (treeAt s back) (choices (domainAt s back) v)) → GoesOn gs b v k g
+              → Visits s ws left n gs b g
+          unfolding expanded
+          visit-open left gs b g held goes = record {
+            holds = subst (Holds s ws left) grown (holds-trans closed held);
+            going =
+                goes n
+                ∙ ap₂ (λ (x y : ℕ). goingOn (mem x gs) (above y b) n) vertex-is cost-is
+                ∙ sym (ap (λ (x : Bool). goingIf x gs b tree n) is-open);
+          }
+            where
+              grown : pushAll (domainAt s back) n k (treeAt s back) (choices (domainAt s back) v) ≡ visitedIf (isClosed tree n) (domainAt s ws) tree n
+              grown =
+                  ap₂ (λ (d : Domain) (t : Tree). pushAll d n k t (choices d v)) domain (closed .tree)
+                  ∙ ap₂ (λ (x y : ℕ). pushAll (domainAt s ws) n x (close tree (it .vertex) n) (choices (domainAt s ws) y)) cost-is vertex-is
+                  ∙ sym (ap (λ (x : Bool). visitedIf x (domainAt s ws) tree n) is-open)

@@ -1,0 +1,179 @@
+// Growing a tree of a cache, at most ten tickets at a time: the Rust's loop `'grow` of `step`.
+use layout::wide;
+use model::CostBound;
+use model::Solution;
+use queue::Popped;
+use tree::Node;
+use tree::partial_keyed_closed_set::CloseResult;
+use tree::partial_keyed_closed_set::close;
+ghost use mathlib.Core.Path.{_≡_};
+ghost use Prim.Native.Nat.{_<_, _≤_};
+ghost use lib.ListN.{length, getD};
+ghost use Rattle.model.specs.Lists.{mem};
+ghost use Rattle.model.specs.Graph.{choices, edgeNumbers};
+ghost use Rattle.model.specs.Tree.{pushAll, pushNode, child, above};
+ghost use Rattle.layout.specs.Layout.{Sized};
+ghost use Rattle.grow.specs.Grow.{CanGrow, Grew, slotOf, treeAt, domainAt, Holds, CanPushChoice, CanPushChoices, CanVisit, Visits, GoesOn};
+
+// The tickets taken, and the goal's node if one was closed.
+pub struct Growth {
+    pub tickets: usize,
+    pub solution: Solution,
+}
+
+// Where the words of a tree stand.
+pub struct Slot {
+    pub vertices: usize,
+    pub edges: usize,
+    pub number: usize,
+    pub at: usize,
+    pub end: usize,
+}
+
+// Whether the growing goes on after a ticket.
+pub enum Going {
+    On,
+    Found,
+    Over,
+}
+
+// Takes at most ten tickets of the tree in a slot.
+pub fn grow(words: &mut [u32], slot: usize, goals: &[u32], bound: CostBound) -> Growth
+    requires { ⌜ CanGrow (now words) slot ⌝ }
+    ensures { λ r. ⌜ Grew (now (words .entry)) slot (now (goals .entry)) bound r (now (words .exit)) ⌝ }
+{
+    let s = slot_of(words, slot);
+    let at = s.at;
+    let end = s.end;
+    let mut left: usize = 10;
+    let mut tickets: usize = 0;
+    while 0 < left {
+        let Popped::Ticket(node, _) = tree::pop(&mut words[at..end], s.edges) else {
+            return Growth {
+                tickets,
+                solution: Solution::Unsolved,
+            };
+        };
+        left -= 1;
+        tickets += 1;
+        match visit(words, s, node, goals, bound) {
+            Going::On => {}
+            Going::Found => {
+                return Growth {
+                    tickets,
+                    solution: Solution::At(node),
+                };
+            }
+            Going::Over => {
+                return Growth {
+                    tickets,
+                    solution: Solution::Unsolved,
+                };
+            }
+        }
+    }
+    Growth {
+        tickets,
+        solution: Solution::Unsolved,
+    }
+}
+
+fn slot_of(words: &[u32], slot: usize) -> Slot
+    requires { ⌜ (5 ≤ length (now words)) × (Sized (getD (now words) 1 0) (getD (now words) 2 0) × (slot < 64)) ⌝ }
+    ensures { λ r. ⌜ r ≡ slotOf (now (words .entry)) slot ⌝ }
+{
+    let vertices = layout::header(words, layout::VERTICES);
+    let edges = layout::header(words, layout::EDGES);
+    let at = layout::slot_at(vertices, edges, slot);
+    Slot {
+        vertices,
+        edges,
+        number: slot,
+        at,
+        end: at + layout::tree_words(vertices, edges),
+    }
+}
+
+// A node was taken from the queue: unless its vertex is closed already, it closes it and its edges are queued.
+fn visit(words: &mut [u32], s: Slot, node: u32, goals: &[u32], bound: CostBound) -> Going
+    requires { ⌜ CanVisit s (now words) node ⌝ }
+    ensures { λ r. ⌜ Visits s (now (words .entry)) (now (words .exit)) node (now (goals .entry)) bound r ⌝ }
+{
+    let at = s.at;
+    let end = s.end;
+    let vertex = layout::node_word(&words[at..end], wide(node), layout::NODE_VERTEX);
+    let cost = layout::node_word(&words[at..end], wide(node), layout::NODE_COST);
+    match close(&mut words[at..end], s.edges, wide(vertex), node) {
+        CloseResult::Rejected => {
+            return Going::On;
+        }
+        CloseResult::Accepted => {}
+    }
+    push_choices(words, s, node, vertex, cost);
+    going_on(goals, bound, vertex, cost)
+}
+
+// Queues the edges of a vertex that a node closed.
+fn push_choices(words: &mut [u32], s: Slot, node: u32, vertex: u32, cost: u32)
+    requires { ⌜ CanPushChoices s (now words) vertex cost ⌝ }
+    ensures { λ _. ⌜ Holds s (now (words .entry)) (now (words .exit)) (pushAll (domainAt s (now (words .entry))) node cost (treeAt s (now (words .entry))) (choices (domainAt s (now (words .entry))) vertex)) ⌝ }
+{
+    let mut place = layout::first_place(words, s.vertices, s.edges, wide(vertex));
+    let end = layout::first_place(words, s.vertices, s.edges, wide(vertex) + 1);
+    while place < end {
+        push_choice(words, s, node, cost, place);
+        place += 1;
+    }
+}
+
+// Queues the edge at a place of the edge numbers.
+fn push_choice(words: &mut [u32], s: Slot, node: u32, cost: u32, place: usize)
+    requires { ⌜ CanPushChoice s (now words) cost place ⌝ }
+    ensures { λ _. ⌜ Holds s (now (words .entry)) (now (words .exit)) (pushNode (treeAt s (now (words .entry))) (child (domainAt s (now (words .entry))) node cost (getD (edgeNumbers (domainAt s (now (words .entry)))) place 0))) ⌝ }
+{
+    let edge = layout::edge_number(words, s.vertices, s.edges, place);
+    let child = Node {
+        vertex: layout::edge_word(words, s.vertices, edge, layout::TO),
+        cost: cost + layout::edge_word(words, s.vertices, edge, layout::COST),
+        parent: node,
+        edge: edge as u32,
+    };
+    let at = s.at;
+    let end = s.end;
+    tree::push_node(&mut words[at..end], s.edges, child);
+}
+
+// A goal is a find and stops; then a cost above the bound stops.
+fn going_on(goals: &[u32], bound: CostBound, vertex: u32, cost: u32) -> Going
+    ensures { λ r. ⌜ GoesOn (now (goals .entry)) bound vertex cost r ⌝ }
+{
+    if contains(goals, vertex) {
+        return Going::Found;
+    }
+    if is_above(cost, bound) {
+        return Going::Over;
+    }
+    Going::On
+}
+
+fn contains(goals: &[u32], vertex: u32) -> bool
+    ensures { λ r. ⌜ r ≡ mem vertex (now (goals .entry)) ⌝ }
+{
+    let mut i = 0;
+    while i < goals.len() {
+        if goals[i] == vertex {
+            return true;
+        }
+        i += 1;
+    }
+    false
+}
+
+fn is_above(cost: u32, bound: CostBound) -> bool
+    ensures { λ r. ⌜ r ≡ above cost bound ⌝ }
+{
+    match bound {
+        CostBound::Unbounded => false,
+        CostBound::Bound(b) => b < cost,
+    }
+}

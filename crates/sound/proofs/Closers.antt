@@ -1,0 +1,94 @@
+-- What the words say of a closed word and of the root: the cases in which the check answers.
+-- Assumes nothing.
+use mathlib.Core.Path.{_≡_, sym, ap, ap₂, _∙_}
+use mathlib.Core.Bool.{Bool, true, false, _&&_}
+use mathlib.Core.List.{List}
+use Prim.Native.Nat.{ℕ, suc, _+_, _-_, _<_, _≤_}
+use native.Mathlib.Nat.{add-zero}
+use native.Mathlib.Omega.{arith}
+use lib.Dec.{eqb, leb, ltb}
+use lib.ListN.{length, getD}
+use borrow.Author.Tests.{lt-ltb, le-ltb, eq-eqb, ne-eqb}
+use Rattle.model.specs.Lists.{allIn}
+use Rattle.model.specs.Tree.{Node, node, closedAt, evaluation}
+use Rattle.layout.specs.Layout.{nodeAt, queueAt, closedAt as closedWordsAt}
+use Rattle.layout.specs.Read.{treeIn}
+use Rattle.layout.proofs.Trees.{tree-nodes, tree-node, tree-closed}
+use Rattle.queue.specs.Queue.{evaluationIn}
+use Rattle.tree.specs.Tree.{treeOf, HasVertex}
+use Rattle.sound.specs.Check.{Waits, closerb, begunb, RootMarked}
+use Rattle.sound.proofs.Waiting.{mem-waiting, cost-is, all-below-used, queued-node, none-waits, waiting-first}
+
+-- ---- the closed word of vertex v, where closed words stand from c on
+
+word-is : (l : ℕ) (t : List ℕ) (v : ℕ) → HasVertex l t v → closedAt (treeOf l t .closed) v ≡ getD t (closedWordsAt l + v) 0
+word-is l t v h = tree-closed _ l t v (omega arith)
+
+-- the vertex is open
+pub closer-open : (l : ℕ) (t : List ℕ) (v c : ℕ) → c ≡ closedWordsAt l → HasVertex l t v → getD t (c + v) 0 ≡ 0 → true ≡ closerb (treeOf l t) v
+closer-open l t v c at h e = rw (word-is l t v h, ← at, e)
+
+module _ (l : ℕ) (t : List ℕ) (v c : ℕ) (at : c ≡ closedWordsAt l) (h : HasVertex l t v) (some : getD t (c + v) 0 ≡ 0 → ⊥) where
+  -- the number named
+  abbrev i : ℕ
+  i = getD t (c + v) 0 - 1
+
+  names : closerb (treeOf l t) v
+      ≡ ((ltb i (length (treeOf l t .nodes)) && eqb ((node (treeOf l t .nodes) i) .vertex) v)
+      && allIn (λ j. leb (evaluation (treeOf l t .nodes) i) (evaluation (treeOf l t .nodes) j)) (treeOf l t .waiting))
+  names =
+      let e : closedAt (treeOf l t .closed) v ≡ suc i = word-is l t v h ∙ ap (λ (x : ℕ). getD t (x + v) 0) (sym at) ∙ omega arith in
+      rw e
+
+  -- it is no node
+  pub closer-past : getD t 1 0 ≤ i → false ≡ closerb (treeOf l t) v
+  closer-past g = rw (names, tree-nodes _ l t, le-ltb i (getD t 1 0) g)
+
+  -- it is a node k, whose vertex x is read
+  module _ (k x y : ℕ) (n : i < getD t 1 0) (ek : k ≡ i) (ey : y ≡ getD t (nodeAt k + 0) 0) (ex : x ≡ y) where
+    vertex-is : (node (treeOf l t .nodes) i) .vertex ≡ x
+    vertex-is =
+        ap (λ (z : Node). z .vertex) (tree-node _ l t i n)
+        ∙ sym (ex ∙ ey ∙ ap (λ (z : ℕ). getD t z 0) (omega arith))
+
+    -- of another vertex
+    pub closer-elsewhere : (x ≡ v → ⊥) → false ≡ closerb (treeOf l t) v
+    closer-elsewhere ne = rw (names, tree-nodes _ l t, lt-ltb i (getD t 1 0) n, vertex-is, ne-eqb x v ne)
+
+    named : x ≡ v
+        → closerb (treeOf l t) v ≡ allIn (λ j. leb (evaluation (treeOf l t .nodes) i) (evaluation (treeOf l t .nodes) j)) (treeOf l t .waiting)
+    named ev = names ∙ rw (tree-nodes _ l t, lt-ltb i (getD t 1 0) n, vertex-is, eq-eqb x v ev)
+
+    -- of v: no node waits, or the first is compared
+    pub closer-alone : Waits l t → x ≡ v → getD t 2 0 ≡ 0 → true ≡ closerb (treeOf l t) v
+    closer-alone w ev z = sym (named ev ∙ none-waits _ l t w _ z)
+
+    pub closer-first : Waits l t → x ≡ v → (getD t 2 0 ≡ 0 → ⊥) → (q a b : ℕ) → q ≡ queueAt l → a ≡ evaluationIn t i → b ≡ evaluationIn t (getD t q 0)
+        → leb a b ≡ closerb (treeOf l t) v
+    closer-first w ev more q a b eq ea eb =
+        let cost : evaluation (treeOf l t .nodes) i ≡ a = cost-is _ l t i n ∙ sym ea in
+        let first : evaluationIn t (getD t (queueAt l) 0) ≡ b = rw (← eq) (sym eb) in
+        sym (named ev ∙ waiting-first _ l t w _ (omega arith) ∙ ap₂ leb cost first)
+
+-- the first queue word, at place q, is a node
+pub first-fits : (l : ℕ) (t : List ℕ) (q : ℕ) → Waits l t → (getD t 2 0 ≡ 0 → ⊥) → q ≡ queueAt l → nodeAt (getD t q 0) + 4 ≤ length t
+first-fits l t q w more eq =
+    let node : getD t q 0 < getD t 1 0 = rw (eq, ← add-zero (queueAt l)) (queued-node l t w 0 (omega arith)) in
+    omega (arith, w .used, w .fits)
+
+-- ---- the root
+
+module _ (l : ℕ) (t : List ℕ) (marks : List Bool) (c v : ℕ) (r : RootMarked l t marks) (at : c ≡ closedWordsAt l) (ev : v ≡ getD t 0 0) where
+  start-is : closedAt (treeOf l t .closed) (treeOf l t .start) ≡ getD t (c + v) 0
+  unfolding treeIn
+  start-is = word-is l t (getD t 0 0) (r .start) ∙ rw (← at, ← ev)
+
+  -- its vertex is closed
+  pub begun-closed : (getD t (c + v) 0 ≡ 0 → ⊥) → true ≡ begunb (treeOf l t)
+  begun-closed ne = rw (start-is, ne-eqb (getD t (c + v) 0) 0 ne)
+
+  -- or its mark tells
+  pub begun-waits : getD t (c + v) 0 ≡ 0 → getD marks 0 false ≡ begunb (treeOf l t)
+  begun-waits e =
+      rw (start-is, eq-eqb (getD t (c + v) 0) 0 e)
+      (r .marked .mark 0 (omega arith) ∙ sym (mem-waiting _ l t (all-below-used l t (r .waits)) 0))

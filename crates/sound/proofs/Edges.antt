@@ -1,0 +1,209 @@
+-- The edges that leave closed vertices: their words, how many they are, and whether each leads on.
+-- Assumes nothing.
+use mathlib.Core.Path.{_≡_, refl, sym, ap, _∙_}
+use mathlib.Core.Logic.{_⊎_, inl, inr, _≢_}
+use mathlib.Core.Bool.{Bool, true, false, not, _&&_}
+use mathlib.Core.List.{List, []}
+use Prim.Native.Nat.{ℕ, zero, suc, _+_, _-_, _<_, _≤_}
+use native.Mathlib.Omega.{arith}
+use native.Mathlib.Nat.{add-zero, zero-add}
+use native.Mathlib.Numerals.{add-one}
+use lib.Dec.{eqb, leb, ltb}
+use lib.ListN.{length, getD}
+use borrow.Author.Tests.{ltb-true, le-leb, lt-leb, eq-eqb, ne-eqb}
+use Rattle.model.specs.Lists.{upFrom, numbers, keep, those, allIn, upto}
+use Rattle.model.specs.Graph.{from, to, cost, vertexCount, edgeCount, edgesInUse}
+use Rattle.model.specs.Tree.{Tree, node, closedAt, evaluation}
+use Rattle.model.specs.Sound.{closedEdges, closedb, reachedb}
+use Rattle.model.proofs.Bools.{and-true, all-true, upto-at, at-upto, all-in-at, at-all-in}
+use Rattle.model.proofs.Lists.{up-length, numbers-mem, numbers-has, those-length}
+use Rattle.layout.specs.Layout.{nodeAt, edgeAt, closedAt as closedWordsAt}
+use Rattle.layout.specs.Read.{treeIn, domainOf}
+use Rattle.layout.specs.Held.{Held}
+use Rattle.layout.proofs.Edges.{from-word, to-word, cost-word, vertex-count-in, edge-count-in}
+use Rattle.layout.proofs.Trees.{tree-nodes, tree-closed}
+use Rattle.queue.specs.Queue.{evaluationIn, oneIf}
+use Rattle.sound.specs.Check.{queueTests, closerb, onwardb, LeadsOn}
+use Rattle.sound.proofs.Waiting.{same-tests, cost-is}
+use Rattle.sound.proofs.LeastCosts.{waits-within}
+
+-- ---- an edge's words
+
+module _ {m l : ℕ} {ws : List ℕ} (h : Held m l ws) {e : ℕ} (k : e < l) where
+  usable : e < edgeCount (domainOf m l ws .graph)
+  usable = omega (arith, edge-count-in m l ws)
+
+  all : vertexCount (domainOf m l ws .graph) ≡ m
+  all = vertex-count-in m l ws (omega (arith, h .fits))
+
+  pub edge-from : {x : ℕ} → x ≡ getD ws (edgeAt m e + 0) 0 → (x ≡ from (domainOf m l ws .graph) e) × (x < m)
+  edge-from {x} q =
+      let same : x ≡ from (domainOf m l ws .graph) e = rw add-zero at q ∙ sym (from-word m l ws e k) in
+      (same, omega (arith, all, h .accepted .leaves e usable))
+
+  edge-to : {x : ℕ} → x ≡ getD ws (edgeAt m e + 1) 0 → (x ≡ to (domainOf m l ws .graph) e) × (x < m)
+  edge-to {x} q =
+      let same : x ≡ to (domainOf m l ws .graph) e = q ∙ sym (to-word m l ws e k) in
+      (same, omega (arith, all, h .accepted .enters e usable))
+
+  edge-cost : {x : ℕ} → x ≡ getD ws (edgeAt m e + 2) 0 → (x ≡ cost (domainOf m l ws .graph) e) × (x ≤ 999999)
+  edge-cost {x} q =
+      let same : x ≡ cost (domainOf m l ws .graph) e = q ∙ sym (cost-word m l ws e k) in
+      (same, omega (arith, h .accepted .costs e usable))
+
+-- the closed word of vertex v, as the code reads it
+closed-word : (m l : ℕ) {a x v : ℕ} (t : List ℕ) → a ≡ closedWordsAt l → x ≡ v → x < m → getD t (a + x) 0 ≡ closedAt (treeIn m l t .closed) v
+closed-word m l t p q h = rw (p, ← q) (sym (tree-closed m l t _ h))
+
+-- ---- how many
+
+abbrev leavesClosed : ℕ → ℕ → List ℕ → List ℕ → ℕ → Bool
+leavesClosed m l ws t e = not (eqb (closedAt (treeIn m l t .closed) (from (domainOf m l ws .graph) e)) 0)
+
+keep-length : (b : Bool) (x : ℕ) (xs : List ℕ) → length (keep b x xs) ≡ oneIf b + length xs
+keep-length true x xs = omega arith
+keep-length false x xs = omega arith
+
+those-last : (p : ℕ → Bool) (k n : ℕ) → length (those p (upFrom (suc k) n)) ≡ length (those p (upFrom k n)) + oneIf (p (n + k))
+unfolding those
+those-last p zero n = omega (arith, keep-length (p n) n [], ap (λ (i : ℕ). oneIf (p i)) (add-zero n))
+those-last p (suc k) n =
+    let z : suc n + k ≡ n + suc k = omega arith in
+    omega (
+      arith,
+      keep-length (p n) n (those p (upFrom (suc k) (suc n))),
+      keep-length (p n) n (those p (upFrom k (suc n))),
+      those-last p k (suc n),
+      ap (λ (i : ℕ). oneIf (p i)) z,
+    )
+
+-- c of the first n edges leave closed vertices
+pub record CountTo (m l : ℕ) (ws t : List ℕ) (n c : ℕ) : Type 0 where
+  place : n ≤ l
+  count : c ≡ length (those (leavesClosed m l ws t) (numbers n))
+
+pub count-none : (m l : ℕ) (ws t : List ℕ) → CountTo m l ws t 0 0
+unfolding those
+count-none m l ws t = record { place = omega arith; count = refl }
+
+module _ {m l : ℕ} {ws t : List ℕ} {n c : ℕ} (w : CountTo m l ws t n c) where
+  pub count-few : c ≤ l
+  count-few = omega (arith, w .place, w .count, those-length (leavesClosed m l ws t) (numbers n), up-length n 0)
+
+  pub count-all : l ≤ n → c ≡ length (closedEdges (domainOf m l ws .graph) (treeIn m l t .closed))
+  unfolding closedEdges
+  count-all e =
+      let all : n ≡ edgeCount (domainOf m l ws .graph) = omega (arith, w .place, e, edge-count-in m l ws) in
+      rw all at (w .count)
+
+  pub count-next : {a f d : ℕ} → Held m l ws → n < l → a ≡ closedWordsAt l → f ≡ getD ws (edgeAt m n + 0) 0
+      → ((getD t (a + f) 0 ≢ 0) × (d ≡ c + 1)) ⊎ ((getD t (a + f) 0 ≡ 0) × (d ≡ c)) → CountTo m l ws t (n + 1) d
+  count-next {a} {f} {d} h k p q e = record { place = omega arith; count = next }
+    where
+      ends : (f ≡ from (domainOf m l ws .graph) n) × (f < m)
+      ends = edge-from h k q
+
+      word : getD t (a + f) 0 ≡ closedAt (treeIn m l t .closed) (from (domainOf m l ws .graph) n)
+      word = closed-word m l t p (ends .0) (ends .1)
+
+      next : d ≡ length (those (leavesClosed m l ws t) (numbers (n + 1)))
+      next =
+          rw (add-one, those-last (leavesClosed m l ws t) n 0, zero-add, ← word, ← w .count)
+          (elim e [
+            | inl y ↦ rw (ne-eqb (getD t (a + f) 0) 0 (y .0)) (y .1)
+            | inr y ↦ rw (eq-eqb (getD t (a + f) 0) 0 (y .0), add-zero) (y .1)
+          ])
+
+-- ---- closed words
+
+named : (n : ℕ) (p : ℕ → Bool) (w : ℕ) → closedb (λ i. ltb i n && p i) w ≡ true → w ≢ 0 → w - 1 < n
+named n p zero e z = absurd (z refl)
+named n p (suc i) e z = omega (arith, ltb-true i n (and-true (ltb i n) (p i) e .0))
+
+module _ {m l : ℕ} {ws t costs : List ℕ} (h : LeadsOn m l ws t costs) {a x : ℕ} (p : a ≡ closedWordsAt l) (k : x < m) where
+  abbrev u : Tree
+  u = treeIn m l t
+
+  abbrev word : ℕ
+  word = getD t (a + x) 0
+
+  word-is : word ≡ closedAt (u .closed) x
+  word-is = closed-word m l t p refl k
+
+  -- x is closed
+  module _ (n : word ≢ 0) where
+    is-suc : closedAt (u .closed) x ≡ suc (word - 1)
+    is-suc = omega (arith, word-is)
+
+    closer : word - 1 < getD t 1 0
+    closer =
+        let r = and-true (closedb (λ i. ltb i (length (u .nodes)) && eqb ((node (u .nodes) i) .vertex) x) (closedAt (u .closed) x)) _
+        (upto-at (closerb u) m (h .closers) x k) in
+        rw (word-is, ← tree-nodes m l t) (named (length (u .nodes)) (λ i. eqb ((node (u .nodes) i) .vertex) x) (closedAt (u .closed) x) (r .0) (rw word-is at n))
+
+    pub closer-words : nodeAt (word - 1) + 4 ≤ length t
+    closer-words = omega (arith, closer, h .hung .counted .used, h .hung .counted .can .len)
+
+    closer-cost : evaluation (u .nodes) (word - 1) ≡ evaluationIn t (word - 1)
+    closer-cost = cost-is m l t (word - 1) closer
+
+    cost-few : evaluationIn t (word - 1) ≤ 2048997951
+    cost-few = omega (arith, h .hung .cost (word - 1) closer, closer, h .hung .counted .used, h .hung .counted .can .held .sized .edges)
+
+  -- x is closed at more than s, or open: then a node has to wait
+  reached-waits : {s : ℕ} → s < 4294967295 → (word ≡ 0) ⊎ ((word ≢ 0) × (s < evaluationIn t (word - 1)))
+      → leb (getD costs x 0) s ≡ reachedb (u .nodes) (u .waiting) (u .closed) x s
+  unfolding reachedb
+  reached-waits {s} small c =
+      waits-within m l t x s small costs (all-true (queueTests l t (getD t 2 0)) (h .queue) .0) (h .least) (omega (arith, k, h .hung .counted .can .held .sized .vertices))
+      ∙ sym (elim c [ inl z ↦ rw (sym word-is ∙ z) | inr z ↦ rw (is-suc (z .0), closer-cost (z .0), lt-leb (evaluationIn t (word - 1)) s (z .1)) ])
+
+  reached-shut : {s : ℕ} → word ≢ 0 → evaluationIn t (word - 1) ≤ s → reachedb (u .nodes) (u .waiting) (u .closed) x s ≡ true
+  unfolding reachedb
+  reached-shut {s} n b = rw (is-suc n, closer-cost n, le-leb (evaluationIn t (word - 1)) s b)
+
+-- ---- whether an edge leads on
+
+-- edge e leaves a closed vertex: it leads on if its end o is reached at no more than the sum s. a: where the closed words begin
+pub record Sum (m l : ℕ) (ws t costs : List ℕ) (e a o s : ℕ) : Type 0 where
+  pub on : LeadsOn m l ws t costs
+  pub words : a ≡ closedWordsAt l
+  pub enters : o < m
+  small : s < 4294967295
+  leads : onwardb (domainOf m l ws) (treeIn m l t) e ≡ reachedb (treeIn m l t .nodes) (treeIn m l t .waiting) (treeIn m l t .closed) o s
+
+module _ {m l : ℕ} {ws t costs : List ℕ} {e a f : ℕ} (h : LeadsOn m l ws t costs) (k : e < l) (p : a ≡ closedWordsAt l) (q : f ≡ getD ws (edgeAt m e + 0) 0) where
+  leaves : (f ≡ from (domainOf m l ws .graph) e) × (f < m)
+  leaves = edge-from (h .hung .counted .can .held) k q
+
+  pub onward-open : getD t (a + f) 0 ≡ 0 → onwardb (domainOf m l ws) (treeIn m l t) e ≡ true
+  onward-open z = rw (← leaves .0, ← word-is h p (leaves .1), z)
+
+  pub sums : {o x y : ℕ} → getD t (a + f) 0 ≢ 0 → o ≡ getD ws (edgeAt m e + 1) 0 → x ≡ evaluationIn t (getD t (a + f) 0 - 1) → y ≡ getD ws (edgeAt m e + 2) 0
+      → Sum m l ws t costs e a o (x + y)
+  sums n r i j =
+      let enters = edge-to (h .hung .counted .can .held) k r in
+      let weighs = edge-cost (h .hung .counted .can .held) k j in
+      record {
+        on = h;
+        words = p;
+        enters = enters .1;
+        small = omega (arith, i, weighs .1, cost-few h p (leaves .1) n);
+        leads = rw (← leaves .0, is-suc h p (leaves .1) n, closer-cost h p (leaves .1) n, ← weighs .0, ← enters .0, i);
+      }
+
+module _ {m l : ℕ} {ws t costs : List ℕ} {e a o s : ℕ} (w : Sum m l ws t costs e a o s) where
+  pub onward-shut : {v : ℕ} → getD t (a + o) 0 ≢ 0 → v ≡ evaluationIn t (getD t (a + o) 0 - 1) → v ≤ s → onwardb (domainOf m l ws) (treeIn m l t) e ≡ true
+  onward-shut n i b = w .leads ∙ reached-shut (w .on) (w .words) (w .enters) n (omega arith)
+
+  pub onward-waits : {v : ℕ} → v ≡ getD costs o 0 → (getD t (a + o) 0 ≡ 0) ⊎ ((getD t (a + o) 0 ≢ 0) × (s < evaluationIn t (getD t (a + o) 0 - 1)))
+      → leb v s ≡ onwardb (domainOf m l ws) (treeIn m l t) e
+  onward-waits i c = rw i (reached-waits (w .on) (w .words) (w .enters) (w .small) c ∙ sym (w .leads))
+
+-- ---- whether each does
+
+pub all-edges : (m l : ℕ) (ws : List ℕ) (p : ℕ → Bool) → allIn p (edgesInUse (domainOf m l ws .graph)) ≡ upto p l
+all-edges m l ws p =
+    ap (λ (n : ℕ). allIn p (numbers n)) (edge-count-in m l ws)
+    ∙ same-tests _ _ (λ e. at-upto p l (λ i h. all-in-at p (numbers l) e i (numbers-has l i h)))
+    (λ e. at-all-in p (numbers l) (λ i h. upto-at p l e i (numbers-mem l i h)))

@@ -1,0 +1,175 @@
+-- The test of a cache's words passes exactly if the words are sound, and sound words hold a sound cache.
+-- Assumes nothing.
+use mathlib.Core.Path.{_≡_, sym, ap, _∙_}
+use mathlib.Core.Bool.{true, _&&_}
+use mathlib.Core.List.{List}
+use Prim.Native.Nat.{ℕ, _+_, _-_, _<_, _≤_}
+use native.Mathlib.Decide.{ℕ-discrete}
+use native.Mathlib.Omega.{arith}
+use borrow.Author.Tests.{leb-true, le-leb}
+use lib.ListN.{length, getD}
+use Rattle.model.specs.Lists.{allb}
+use Rattle.model.specs.Graph.{Domain, Accepted}
+use Rattle.model.specs.Sound.{Sound, tree, starts, soundb}
+use Rattle.model.specs.Calls.{SoundCache}
+use Rattle.model.proofs.Bools.{and-true, true-and, all-true, true-given, upto-at, at-upto}
+use Rattle.model.proofs.Tests.{sound-at, at-sound, distinct-at, at-distinct}
+use Rattle.layout.specs.Layout.{Sized, closedAt as closedWordsAt, treeWords, slotAt, needed}
+use Rattle.layout.specs.Read.{treeIn, treesIn, domainOf, readCache}
+use Rattle.layout.specs.Sound.{headerTests, graphTests, formedb, treeWordsb, slotWords, treesTests, soundWordsb}
+use Rattle.layout.proofs.Trees.{tree-nodes, tree-closed}
+use Rattle.tree.specs.Tree.{Formed}
+use Rattle.tree.proofs.Parts.{zeros-at, at-zeros}
+use Rattle.tree.proofs.Form.{formed-at, at-formed}
+use Rattle.sound.specs.Facts.{SoundWords}
+use Rattle.sound.proofs.Held.{held-at, at-held}
+use Rattle.sound.proofs.Slots.{slot-length, tree-in-at, start-in-at, trees-in-length, starts-in-length}
+
+-- ---- the header
+
+pub record Headed (m l s u : ℕ) (ws : List ℕ) : Type 0 where
+  pub header : 5 ≤ length ws
+  pub direction : getD ws 0 0 ≤ 1
+  pub sized : Sized m l
+  pub some-slot : 1 ≤ s
+  pub slots : s ≤ 64
+  pub used : u ≤ s
+  pub fits : needed m l s ≤ length ws
+
+pub headed : (ws : List ℕ) → allb (headerTests ws) ≡ true → Headed (getD ws 1 0) (getD ws 2 0) (getD ws 3 0) (getD ws 4 0) ws
+headed ws e =
+    let r = all-true (headerTests ws) e in
+    let r₄ = r .1 .1 .1 .1 in
+    record {
+      header = leb-true _ _ (r .0);
+      direction = leb-true _ _ (r .1 .0);
+      sized = record { vertices = leb-true _ _ (r .1 .1 .0); edges = leb-true _ _ (r .1 .1 .1 .0) };
+      some-slot = leb-true _ _ (r₄ .0);
+      slots = leb-true _ _ (r₄ .1 .0);
+      used = leb-true _ _ (r₄ .1 .1 .0);
+      fits = leb-true _ _ (r₄ .1 .1 .1 .0);
+    }
+
+-- ---- one tree's words
+
+module _ (d : Domain) (m l : ℕ) (t : List ℕ) where
+  -- a closed word of a sound tree is 0, or one more than a node
+  closers : length t ≡ treeWords m l → Sound d (treeIn m l t) → (v : ℕ) → closedWordsAt l + v < length t → getD t (closedWordsAt l + v) 0 ≤ getD t 1 0
+  closers len ok v h = elim (ℕ-discrete w 0) [
+    | yes z ↦ omega arith
+    | no nz ↦ omega (arith, ok .closer v (w - 1) (tree-closed m l t v (omega arith) ∙ omega arith) .0, tree-nodes m l t)
+  ]
+    where
+      w : ℕ
+      w = getD t (closedWordsAt l + v) 0
+
+  pub tree-words-at : Sized m l → length t ≡ treeWords m l → treeWordsb d m l t ≡ true → Formed l t × Sound d (treeIn m l t)
+  unfolding treeWordsb
+  tree-words-at sized len e =
+      let r = and-true (formedb l t) (soundb d (treeIn m l t)) e in
+      let ok : Sound d (treeIn m l t) = sound-at d (treeIn m l t) (r .1) in
+      (formed-at l t (sized .edges) (omega arith) (omega (arith, sized .vertices)) (closers len ok) (r .0), ok)
+
+  at-tree-words : Formed l t → Sound d (treeIn m l t) → treeWordsb d m l t ≡ true
+  unfolding treeWordsb
+  at-tree-words formed ok = true-and (formedb l t) (soundb d (treeIn m l t)) (at-formed l t formed) (at-sound d (treeIn m l t) ok)
+
+-- ---- the whole
+
+module _ (ws : List ℕ) where
+  abbrev m : ℕ
+  m = getD ws 1 0
+
+  abbrev l : ℕ
+  l = getD ws 2 0
+
+  abbrev u : ℕ
+  u = getD ws 4 0
+
+  pub sound-words-at : soundWordsb ws ≡ true → SoundWords ws
+  unfolding soundWordsb
+  sound-words-at e =
+      let p = and-true (allb (headerTests ws)) (allb (graphTests (readCache ws .domain) ws) && allb (treesTests ws)) e in
+      let q = and-true (allb (graphTests (readCache ws .domain) ws)) (allb (treesTests ws)) (p .1) in
+      let h = headed ws (p .0) in
+      let t = all-true (treesTests ws) (q .1) in
+      let len : (i : ℕ) → i < u → length (slotWords m l i ws) ≡ treeWords m l = λ i k. slot-length m l ws {n = getD ws 3 0} (omega (arith, h .used)) (h .fits) in
+      let tree-at : (i : ℕ) → i < u → Formed l (slotWords m l i ws) × Sound (domainOf m l ws) (treeIn m l (slotWords m l i ws)) =
+      λ i k. tree-words-at (domainOf m l ws) m l (slotWords m l i ws) (h .sized) (len i k) (upto-at _ u (t .1 .0) i k) in
+      record {
+        header = h .header;
+        direction = h .direction;
+        some-slot = h .some-slot;
+        slots = h .slots;
+        used = h .used;
+        fits = h .fits;
+        held = held-at ws (p .0) (q .0);
+        differ = λ i j a b s.
+            let n = starts-in-length m l u ws in
+            distinct-at (starts (treesIn m l u ws)) (t .0) i j (omega arith) (omega arith) (start-in-at m l ws a ∙ s ∙ sym (start-in-at m l ws b));
+        formed = λ i k. tree-at i k .0;
+        sound = λ i k. tree-at i k .1;
+        spare = zeros-at ws (slotAt m l u) (needed m l (getD ws 3 0)) (t .1 .1 .0);
+      }
+
+  module _ (ok : SoundWords ws) where
+    header-passes : allb (headerTests ws) ≡ true
+    header-passes =
+        true-given (headerTests ws)
+        (le-leb _ _ (ok .header))
+        (le-leb _ _ (ok .direction))
+        (le-leb _ _ (ok .held .sized .vertices))
+        (le-leb _ _ (ok .held .sized .edges))
+        (le-leb _ _ (ok .some-slot))
+        (le-leb _ _ (ok .slots))
+        (le-leb _ _ (ok .used))
+        (le-leb _ _ (ok .fits))
+
+    trees-pass : allb (treesTests ws) ≡ true
+    unfolding readCache
+    trees-pass =
+        let n = starts-in-length m l u ws in
+        true-given (treesTests ws)
+        (at-distinct (starts (treesIn m l u ws)) (λ i j a b s.
+        let h : i < u = omega arith in
+        let k : j < u = omega arith in
+        ok .differ i j h k (sym (start-in-at m l ws h) ∙ s ∙ start-in-at m l ws k)))
+        (at-upto _ u (λ i k. at-tree-words (domainOf m l ws) m l (slotWords m l i ws) (ok .formed i k) (ok .sound i k)))
+        (at-zeros ws (slotAt m l u) (needed m l (getD ws 3 0)) (ok .spare))
+
+    pub at-sound-words : soundWordsb ws ≡ true
+    unfolding soundWordsb
+    at-sound-words =
+        true-and (allb (headerTests ws)) (allb (graphTests (readCache ws .domain) ws) && allb (treesTests ws)) header-passes
+        (true-and (allb (graphTests (readCache ws .domain) ws)) (allb (treesTests ws)) (at-held ws header-passes (ok .held)) trees-pass)
+
+  -- ---- the cache that sound words hold
+
+  pub trees-length : length (readCache ws .trees) ≡ u
+  unfolding readCache
+  trees-length = trees-in-length m l u ws
+
+  pub tree-read : {i : ℕ} → i < u → tree (readCache ws .trees) i ≡ treeIn m l (slotWords m l i ws)
+  unfolding readCache
+  tree-read h = tree-in-at m l ws h
+
+  pub sound-accepted : SoundWords ws → Accepted (readCache ws .domain .graph)
+  unfolding readCache
+  sound-accepted ok = ok .held .accepted
+
+  pub sound-cache : SoundWords ws → SoundCache (readCache ws)
+  unfolding readCache treeIn
+  sound-cache ok = record {
+    within = omega (arith, trees-in-length m l u ws, ok .used);
+    trees = record {
+      differ = λ i j a b s.
+          let n = trees-in-length m l u ws in
+          let h : i < u = omega arith in
+          let k : j < u = omega arith in
+          ok .differ i j h k (ap (λ t. t .start) (sym (tree-in-at m l ws h)) ∙ s ∙ ap (λ t. t .start) (tree-in-at m l ws k));
+      each = λ i a.
+          let n = trees-in-length m l u ws in
+          let h : i < u = omega arith in
+          rw (tree-in-at m l ws h) (ok .sound i h);
+    };
+  }

@@ -1,0 +1,137 @@
+-- Header, initial costs, edges and unused words: what the tests answer, one after the other.
+-- Assumes nothing.
+use mathlib.Core.Path.{_≡_, refl, sym, ap, ap₂, _∙_}
+use mathlib.Core.Bool.{Bool, true, false, _&&_}
+use mathlib.Core.List.{List, [], _∷_, _++_}
+use Prim.Native.Nat.{ℕ, suc, _+_, _-_, _<_, _≤_}
+use native.Mathlib.Omega.{arith}
+use native.Mathlib.Numerals.{add-one}
+use borrow.Author.Tests.{le-ltb, lt-ltb, le-leb, lt-leb, eq-eqb, ne-eqb}
+use lib.Dec.{leb}
+use lib.ListN.{length, getD, take, drop, drop-of-length-le}
+use lib.Seq.{drop-cons}
+use Rattle.model.specs.Lists.{allb, upto}
+use Rattle.model.specs.Graph.{Graph, absent, from, to, cost, vertexCount}
+use Rattle.model.proofs.Bools.{and-true, true-given, upto-at, at-upto}
+use Rattle.layout.specs.Layout.{edgeAt, nodeAt, queueAt, closedAt, needed, part}
+use Rattle.layout.specs.Read.{graphIn}
+use Rattle.layout.specs.Sound.{headerTests, initialb, edgeTests, zerosb}
+use Rattle.layout.proofs.Edges.{vertex-count-in, from-word, to-word, cost-word}
+use Rattle.sound.specs.Check.{HasGraph, spareTests}
+use Rattle.sound.proofs.Tests.{all-fails}
+
+-- ---- the last test, and the end of a loop
+
+-- where all tests before it pass, the last one decides
+pub last-test : (bs : List Bool) (b : Bool) → allb bs ≡ true → b ≡ allb (bs ++ (b ∷ []))
+last-test [] true e = refl
+last-test [] false e = refl
+last-test (x ∷ xs) b e = let p = and-true x (allb xs) e in rw (p .0) (last-test xs b (p .1))
+
+-- fewer numbers pass too
+pub upto-less : (p : ℕ → Bool) (n i : ℕ) → n ≤ i → upto p i ≡ true → upto p n ≡ true
+upto-less p n i h e = at-upto p n (λ j k. upto-at p i e j (omega arith))
+
+-- ---- the header
+
+module _ (ws : List ℕ) where
+  pub short-fails : length ws ≤ 4 → false ≡ allb (headerTests ws)
+  short-fails h = sym (all-fails (headerTests ws) 0 (lt-leb 5 (length ws) (omega arith)))
+
+  pub direction-fails : 1 < getD ws 0 0 → false ≡ allb (headerTests ws)
+  direction-fails h = sym (all-fails (headerTests ws) 1 (lt-leb (getD ws 0 0) 1 h))
+
+  pub vertices-fail : {m : ℕ} → m ≡ getD ws 1 0 → 1024 < m → false ≡ allb (headerTests ws)
+  vertices-fail e h = sym (all-fails (headerTests ws) 2 (lt-leb (getD ws 1 0) 1024 (omega arith)))
+
+  pub edges-fail : {l : ℕ} → l ≡ getD ws 2 0 → 2048 < l → false ≡ allb (headerTests ws)
+  edges-fail e h = sym (all-fails (headerTests ws) 3 (lt-leb (getD ws 2 0) 2048 (omega arith)))
+
+  pub no-slot-fails : {t : ℕ} → t ≡ getD ws 3 0 → t ≡ 0 → false ≡ allb (headerTests ws)
+  no-slot-fails e h = sym (all-fails (headerTests ws) 4 (lt-leb 1 (getD ws 3 0) (omega arith)))
+
+  pub slots-fail : {t : ℕ} → t ≡ getD ws 3 0 → 64 < t → false ≡ allb (headerTests ws)
+  slots-fail e h = sym (all-fails (headerTests ws) 5 (lt-leb (getD ws 3 0) 64 (omega arith)))
+
+  pub trees-fail : {t u : ℕ} → t ≡ getD ws 3 0 → u ≡ getD ws 4 0 → t < u → false ≡ allb (headerTests ws)
+  trees-fail e f h = sym (all-fails (headerTests ws) 6 (lt-leb (getD ws 4 0) (getD ws 3 0) (omega arith)))
+
+  pub header-last : {m l t u n : ℕ} → 4 < length ws → getD ws 0 0 ≤ 1 → m ≡ getD ws 1 0 → m ≤ 1024 → l ≡ getD ws 2 0 → l ≤ 2048
+      → t ≡ getD ws 3 0 → (t ≡ 0 → ⊥) → t ≤ 64 → u ≡ getD ws 4 0 → u ≤ t → n ≡ needed m l t
+      → leb n (length ws) ≡ allb (headerTests ws)
+  header-last {m} {l} {t} {u} {n} a b em hm el hl et some ht eu hu en =
+      ap (λ (x : ℕ). leb x (length ws)) (en ∙ (λ i. needed (em i) (el i) (et i)))
+      ∙ last-test (take 7 (headerTests ws)) (leb (needed (getD ws 1 0) (getD ws 2 0) (getD ws 3 0)) (length ws))
+      (true-given (take 7 (headerTests ws))
+      (le-leb 5 (length ws) (omega arith))
+      (le-leb (getD ws 0 0) 1 b)
+      (le-leb (getD ws 1 0) 1024 (omega arith))
+      (le-leb (getD ws 2 0) 2048 (omega arith))
+      (le-leb 1 (getD ws 3 0) (omega arith))
+      (le-leb (getD ws 3 0) 64 (omega arith))
+      (le-leb (getD ws 4 0) (getD ws 3 0) (omega arith)))
+
+-- ---- initial costs and edges
+
+pub initial-other : {c w : ℕ} → w ≡ c → (c ≡ absent → ⊥) → leb w 999999 ≡ initialb c
+initial-other {c} {w} e n = rw (e, ne-eqb c absent n)
+
+module _ {m l e : ℕ} {ws : List ℕ} (has : HasGraph m l ws) (h : e < l) where
+  abbrev g : Graph
+  g = graphIn m l ws
+
+  count : vertexCount g ≡ m
+  count = vertex-count-in m l ws (omega (arith, has .fits))
+
+  leaves : from g e ≡ getD ws (edgeAt m e + 0) 0
+  leaves = from-word m l ws e h ∙ ap (λ (n : ℕ). getD ws n 0) (omega arith)
+
+  pub from-fails : {x : ℕ} → x ≡ getD ws (edgeAt m e + 0) 0 → m ≤ x → false ≡ allb (edgeTests g e)
+  from-fails i k = sym (all-fails (edgeTests g e) 0 (le-ltb (from g e) (vertexCount g) (omega (arith, count, leaves))))
+
+  pub to-fails : {y : ℕ} → y ≡ getD ws (edgeAt m e + 1) 0 → m ≤ y → false ≡ allb (edgeTests g e)
+  to-fails i k = sym (all-fails (edgeTests g e) 1 (le-ltb (to g e) (vertexCount g) (omega (arith, count, to-word m l ws e h))))
+
+  pub edge-last : {x y z : ℕ} → x ≡ getD ws (edgeAt m e + 0) 0 → x < m → y ≡ getD ws (edgeAt m e + 1) 0 → y < m → z ≡ getD ws (edgeAt m e + 2) 0
+      → leb z 999999 ≡ allb (edgeTests g e)
+  edge-last ix kx iy ky iz =
+      ap (λ (n : ℕ). leb n 999999) (iz ∙ sym (cost-word m l ws e h))
+      ∙ last-test (take 2 (edgeTests g e)) (leb (cost g e) 999999)
+      (true-given (take 2 (edgeTests g e))
+      (lt-ltb (from g e) (vertexCount g) (omega (arith, count, leaves)))
+      (lt-ltb (to g e) (vertexCount g) (omega (arith, count, to-word m l ws e h))))
+
+-- ---- unused words are 0
+
+module _ (ws : List ℕ) (i : ℕ) where
+  pub zeros-end : length ws ≤ i → zerosb (drop i ws) ≡ true
+  unfolding zerosb
+  zeros-end h = ap zerosb (drop-of-length-le ws h)
+
+  pub zeros-fail : i < length ws → (getD ws i 0 ≡ 0 → ⊥) → zerosb (drop i ws) ≡ false
+  unfolding zerosb
+  zeros-fail h n = ap zerosb (drop-cons ws i 0 h) ∙ ap (λ (b : Bool). b && zerosb (drop (suc i) ws)) (ne-eqb (getD ws i 0) 0 n)
+
+  pub zeros-next : i < length ws → getD ws i 0 ≡ 0 → zerosb (drop i ws) ≡ zerosb (drop (i + 1) ws)
+  unfolding zerosb
+  zeros-next h z =
+      ap zerosb (drop-cons ws i 0 h)
+      ∙ ap (λ (b : Bool). b && zerosb (drop (suc i) ws)) (eq-eqb (getD ws i 0) 0 z)
+      ∙ rw add-one
+
+-- the unused nodes, and the unused queue words: n nodes and k queue words are in use
+module _ (l : ℕ) (t : List ℕ) {n q : ℕ} (nodes : n ≡ getD t 1 0) (queue : q ≡ queueAt l) where
+  abbrev nodesb : Bool
+  nodesb = zerosb (part (nodeAt (getD t 1 0)) (queueAt l - nodeAt (getD t 1 0)) t)
+
+  same-nodes : zerosb (part (nodeAt n) (q - nodeAt n) t) ≡ nodesb
+  same-nodes = ap₂ (λ (a b : ℕ). zerosb (part (nodeAt a) (b - nodeAt a) t)) nodes queue
+
+  pub spare-fails : zerosb (part (nodeAt n) (q - nodeAt n) t) ≡ false → false ≡ allb (spareTests l t)
+  spare-fails z = sym (all-fails (spareTests l t) 0 (sym same-nodes ∙ z))
+
+  pub spare-last : {k c : ℕ} → k ≡ getD t 2 0 → c ≡ closedAt l → zerosb (part (nodeAt n) (q - nodeAt n) t) ≡ true
+      → zerosb (part (q + k) (c - (q + k)) t) ≡ allb (spareTests l t)
+  spare-last ek ec z =
+      (λ i. zerosb (part (queue i + ek i) (ec i - (queue i + ek i)) t))
+      ∙ last-test (nodesb ∷ []) (zerosb (part (queueAt l + getD t 2 0) (closedAt l - (queueAt l + getD t 2 0)) t)) (true-given (nodesb ∷ []) (sym same-nodes ∙ z))

@@ -1,0 +1,46 @@
+-- The slots of a cache stand side by side, and its trees are read off them one by one.
+-- Assumes nothing.
+use mathlib.Core.Path.{_≡_, ap, _∙_}
+use mathlib.Core.List.{List, map}
+use Prim.Native.Nat.{ℕ, zero, suc, _+_, _<_, _≤_}
+use native.Mathlib.Nat.{mul-le-mul-right}
+use native.Mathlib.Omega.{arith}
+use lib.ListN.{length, getD, length-map, List·getD-map}
+use Rattle.model.specs.Lists.{upFrom, numbers}
+use Rattle.model.specs.Tree.{Tree}
+use Rattle.model.specs.Sound.{noTree, tree, starts}
+use Rattle.model.proofs.Lists.{up-length}
+use Rattle.layout.specs.Layout.{treeWords, slotAt}
+use Rattle.layout.specs.Read.{treeIn, treesIn}
+use Rattle.layout.specs.Sound.{slotWords}
+use Rattle.tree.proofs.Parts.{part-length}
+
+pub slot-order : (m l : ℕ) {i j : ℕ} → i ≤ j → slotAt m l i ≤ slotAt m l j
+slot-order m l h = omega (arith, mul-le-mul-right (treeWords m l) h)
+
+-- slot i ends before slot j
+pub slot-before : (m l : ℕ) {i j : ℕ} → i < j → slotAt m l i + treeWords m l ≤ slotAt m l j
+slot-before m l h = omega (arith, slot-order m l h)
+
+module _ (m l : ℕ) (ws : List ℕ) {i n : ℕ} (h : i < n) where
+  pub slot-length : slotAt m l n ≤ length ws → length (slotWords m l i ws) ≡ treeWords m l
+  slot-length fits = part-length (slotAt m l i) (treeWords m l) ws (omega (arith, slot-before m l h))
+
+  -- tree i of n, and the vertex at which it starts
+  pub tree-in-at : tree (treesIn m l n ws) i ≡ treeIn m l (slotWords m l i ws)
+  tree-in-at = up-at (λ j. treeIn m l (slotWords m l j ws)) n 0 i h ∙ ap (λ (j : ℕ). treeIn m l (slotWords m l j ws)) (omega arith)
+    where
+      up-at : (f : ℕ → Tree) (k a j : ℕ) → j < k → tree (map f (upFrom k a)) j ≡ f (a + j)
+      up-at f zero a j h = absurd (omega arith)
+      up-at f (suc k) a zero h = ap f (omega arith)
+      up-at f (suc k) a (suc j) h = up-at f k (suc a) j (omega arith) ∙ ap f (omega arith)
+
+  pub start-in-at : getD (starts (treesIn m l n ws)) i 0 ≡ getD (slotWords m l i ws) 0 0
+  unfolding treeIn
+  start-in-at = List·getD-map (λ (t : Tree). t .start) (treesIn m l n ws) i noTree ∙ ap (λ (t : Tree). t .start) tree-in-at
+
+pub trees-in-length : (m l n : ℕ) (ws : List ℕ) → length (treesIn m l n ws) ≡ n
+trees-in-length m l n ws = length-map (numbers n) _ ∙ up-length n 0
+
+pub starts-in-length : (m l n : ℕ) (ws : List ℕ) → length (starts (treesIn m l n ws)) ≡ n
+starts-in-length m l n ws = length-map (treesIn m l n ws) _ ∙ trees-in-length m l n ws

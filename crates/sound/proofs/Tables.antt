@@ -1,0 +1,113 @@
+-- The tests for which the tables of marks and least costs are there, one after the other: what each asks for, and what its answer says.
+-- Assumes nothing.
+use mathlib.Core.Path.{_≡_, refl, sym, ap, _∙_}
+use mathlib.Core.Bool.{Bool, true, false, not}
+use mathlib.Core.List.{List}
+use Prim.Native.Nat.{ℕ, _+_, _<_, _≤_}
+use native.Mathlib.Omega.{arith}
+use borrow.Author.Tests.{not-true, not-false, le-leb, lt-leb}
+use lib.ListN.{length, getD}
+use Rattle.model.specs.Lists.{allb, upto, allIn}
+use Rattle.model.specs.Graph.{Domain, edgeCount, edgesInUse}
+use Rattle.model.specs.Tree.{Tree}
+use Rattle.model.specs.Sound.{closedEdges}
+use Rattle.model.proofs.Lists.{up-length, those-length}
+use Rattle.layout.specs.Layout.{closedAt as closedWordsAt}
+use Rattle.layout.specs.Read.{treeIn, domainOf}
+use Rattle.layout.proofs.Edges.{edge-count-in}
+use Rattle.layout.proofs.Trees.{tree-nodes}
+use Rattle.tree.specs.Tree.{treeOf}
+use Rattle.sound.specs.Check.{Hung, queueTests, QueueWords, QueueIs, Waits, closerb, begunb, RootMarked, onwardb, LeadsOn, tablesTests}
+use Rattle.sound.proofs.Tests.{all-fails}
+use Rattle.sound.proofs.Nodes.{read-last}
+
+module _ {m l : ℕ} {ws t : List ℕ} (h : Hung m l ws t) where
+  abbrev d : Domain
+  d = domainOf m l ws
+
+  abbrev u : Tree
+  u = treeIn m l t
+
+  abbrev tests : List Bool
+  tests = tablesTests d m l t
+
+  -- all words behind the queue are closed words
+  same : treeOf l t ≡ u
+  same = ap (λ (n : ℕ). treeIn n l t) (omega (arith, h .counted .can .len))
+
+  pub queue-words : QueueWords l t
+  queue-words = record {
+    edges = h .counted .can .held .sized .edges;
+    fits = omega (arith, h .counted .can .len);
+    used = h .counted .used;
+    queued = h .counted .queued;
+    vertex = λ k o. omega (arith, h .vertex k o, h .counted .can .held .sized .vertices);
+  }
+
+  pub closed-fit : closedWordsAt l + m ≤ length t
+  closed-fit = omega (arith, h .counted .can .len)
+
+  -- r, s, n and b are the answers: for queue words, closed words, the edges that leave closed vertices, the root
+  pub bad-queue : {r : Bool} {marks : List Bool} {costs : List ℕ} → QueueIs l t (getD t 2 0) r marks costs → not r ≡ true → false ≡ allb tests
+  bad-queue {r} q e = sym (all-fails tests 0 (sym (q .answer) ∙ not-true r e))
+
+  module _ {s : Bool} (answer : s ≡ upto (closerb (treeOf l t)) m) where
+    closers : s ≡ upto (closerb u) m
+    closers = answer ∙ ap (λ (x : Tree). upto (closerb x) m) same
+
+    pub bad-closers : not s ≡ true → false ≡ allb tests
+    bad-closers e = sym (all-fails tests 1 (sym closers ∙ not-true s e))
+
+  module _ {n : ℕ} (answer : n ≡ length (closedEdges (d .graph) (u .closed))) where
+    pub few-edges : n ≤ 2048
+    unfolding closedEdges
+    few-edges =
+        let fewer : length (closedEdges (d .graph) (u .closed)) ≤ length (edgesInUse (d .graph)) = those-length _ (edgesInUse (d .graph)) in
+        omega (arith, answer, up-length (edgeCount (d .graph)) 0, edge-count-in m l ws, h .counted .can .held .sized .edges)
+
+    pub bad-nodes : {k : ℕ} → k ≡ getD t 1 0 → 1 + n < k → false ≡ allb tests
+    bad-nodes ek e = sym (all-fails tests 2 (lt-leb (length (u .nodes)) _ (omega (arith, answer, tree-nodes m l t))))
+
+  module _ {b : Bool} (answer : b ≡ begunb (treeOf l t)) where
+    begun : b ≡ begunb u
+    begun = answer ∙ ap begunb same
+
+    pub bad-root : not b ≡ true → false ≡ allb tests
+    bad-root e = sym (all-fails tests 3 (sym begun ∙ not-true b e))
+
+  -- the queue words passed
+  module _ {r : Bool} {marks : List Bool} {costs : List ℕ} (q : QueueIs l t (getD t 2 0) r marks costs) (yes : not r ≡ false) where
+    passed : allb (queueTests l t (getD t 2 0)) ≡ true
+    passed = sym (q .answer) ∙ not-false r yes
+
+    pub waits : Waits l t
+    waits = record {
+      edges = h .counted .can .held .sized .edges;
+      fits = omega (arith, h .counted .can .len);
+      used = h .counted .used;
+      queued = h .counted .queued;
+      queue = passed;
+    }
+
+    pub root-marked : RootMarked l t marks
+    root-marked = record {
+      waits = waits;
+      some-node = h .counted .some-node;
+      start = omega (arith, h .counted .can .len, h .start);
+      marked = q .tables (not-false r yes) .marked;
+    }
+
+    module _ {s : Bool} (c : s ≡ upto (closerb (treeOf l t)) m) (closed : not s ≡ false) where
+      pub leads-on : LeadsOn m l ws t costs
+      leads-on = record { hung = h; queue = passed; closers = sym (closers c) ∙ not-false s closed; least = q .tables (not-false r yes) .least }
+
+      -- the last answer, a, where all before it passed
+      pub tables-last : {n k : ℕ} {a b : Bool} → n ≡ length (closedEdges (d .graph) (u .closed)) → k ≡ getD t 1 0 → k ≤ 1 + n
+          → b ≡ begunb (treeOf l t) → not b ≡ false → a ≡ allIn (onwardb d u) (edgesInUse (d .graph)) → a ≡ allb tests
+      tables-last {b = b} en ek few eb begins ea =
+          ea
+          ∙ read-last {cs = tests} refl 4 refl
+          passed
+          (leads-on .closers)
+          (le-leb (length (u .nodes)) _ (omega (arith, en, tree-nodes m l t)))
+          (sym (begun eb) ∙ not-false b begins)

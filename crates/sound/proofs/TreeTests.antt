@@ -1,0 +1,177 @@
+-- The tests of a tree's words in the order in which the check makes them. Two tests of the definition always pass: the waiting list
+-- that is read off words has only nodes and ascends.
+-- Assumes nothing.
+use mathlib.Core.Path.{_≡_, refl, sym, ap, _∙_}
+use mathlib.Core.Bool.{Bool, true, false, not, _&&_}
+use mathlib.Core.List.{List, [], _∷_}
+use Prim.Native.Nat.{ℕ, suc}
+use native.Mathlib.Omega.{arith}
+use lib.Dec.{eqb, leb, ltb}
+use lib.ListN.{length, getD}
+use borrow.Author.Tests.{ltb-true, leb-true, not-true, not-false, lt-ltb, eq-eqb}
+use Rattle.model.specs.Lists.{numbers, keep, those, mem, allb, upto, allIn, Ascends, ascendsb}
+use Rattle.model.specs.Graph.{Domain}
+use Rattle.model.specs.Tree.{Tree, node, closedAt, evaluation}
+use Rattle.model.specs.Sound.{closedb, soundTests, soundb}
+use Rattle.model.proofs.Bools.{and-true, true-and, all-true, true-given, upto-at, at-upto, at-all-in, at-ascends}
+use Rattle.model.proofs.Lists.{ascends-from, up-ascends, numbers-mem, those-mem}
+use Rattle.layout.specs.Read.{treeIn, domainOf}
+use Rattle.layout.specs.Sound.{queueIn, formTests, formedb, treeWordsb}
+use Rattle.layout.proofs.Edges.{vertex-count-in}
+use Rattle.layout.proofs.Trees.{tree-nodes, tree-closed-length}
+use Rattle.sound.specs.Check.{CanCheck, countTests, Counted, rootTests, hangAllb, Hung, queueTests, closerb, tablesTests, HasSpare, spareTests}
+use Rattle.sound.proofs.Tests.{all-fails}
+use Rattle.sound.proofs.Waiting.{same-tests}
+use Rattle.sound.proofs.Nodes.{read-last, hung-at}
+
+-- ---- the waiting list
+
+those-ascends : (p : ℕ → Bool) (b : ℕ) (xs : List ℕ) → Ascends b xs → Ascends b (those p xs)
+unfolding those
+those-ascends p b [] a = tt
+those-ascends p b (x ∷ xs) a = go (those-ascends p (suc x) xs (a .1)) (p x)
+  where
+    go : Ascends (suc x) (those p xs) → (t : Bool) → Ascends b (keep t x (those p xs))
+    go r true = (a .0, r)
+    go r false = ascends-from b (suc x) (those p xs) (omega arith) r
+
+module _ (m l : ℕ) (t : List ℕ) where
+  waiting-nodes : allIn (λ i. ltb i (length (treeIn m l t .nodes))) (treeIn m l t .waiting) ≡ true
+  unfolding treeIn
+  waiting-nodes = at-all-in _ (treeIn m l t .waiting) (λ i k.
+      lt-ltb i _ (omega (arith, tree-nodes m l t, numbers-mem (getD t 1 0) i (those-mem (λ n. mem n (queueIn l t)) (numbers (getD t 1 0)) i k .0))))
+
+  waiting-ascends : ascendsb 0 (treeIn m l t .waiting) ≡ true
+  unfolding treeIn
+  waiting-ascends = at-ascends 0 (treeIn m l t .waiting) (those-ascends (λ n. mem n (queueIn l t)) 0 (numbers (getD t 1 0)) (up-ascends (getD t 1 0) 0))
+
+-- ---- the tests
+
+-- two tests of each number are tests of all
+upto-both : (p q : ℕ → Bool) (n : ℕ) → upto (λ i. p i && q i) n ≡ (upto p n && upto q n)
+upto-both p q n =
+    same-tests _ _
+    (λ e. true-and _ _ (at-upto p n (λ i h. and-true (p i) (q i) (upto-at _ n e i h) .0)) (at-upto q n (λ i h. and-true (p i) (q i) (upto-at _ n e i h) .1)))
+    (λ e. let r = and-true (upto p n) (upto q n) e in at-upto _ n (λ i h. true-and (p i) (q i) (upto-at p n (r .0) i h) (upto-at q n (r .1) i h)))
+
+-- as the check makes them
+abbrev pub treeTests : Domain → ℕ → ℕ → List ℕ → List Bool
+treeTests d m l t =
+    let u = treeIn m l t in
+    allb (countTests l t)
+    ∷ allb (rootTests d u)
+    ∷ hangAllb d u
+    ∷ allb (tablesTests d m l t)
+    ∷ allb (spareTests l t)
+    ∷ []
+
+module _ (m l : ℕ) (ws t : List ℕ) (h : CanCheck m l ws t) where
+  abbrev d : Domain
+  d = domainOf m l ws
+
+  abbrev u : Tree
+  u = treeIn m l t
+
+  closed-length : length (u .closed) ≡ m
+  closed-length = tree-closed-length m l t (omega (arith, h .len))
+
+  -- the two tests of closed words
+  abbrev namesb : ℕ → Bool
+  namesb v = closedb (λ i. ltb i (length (u .nodes)) && eqb ((node (u .nodes) i) .vertex) v) (closedAt (u .closed) v)
+
+  abbrev cheapestb : ℕ → Bool
+  cheapestb v = closedb (λ i. allIn (λ j. leb (evaluation (u .nodes) i) (evaluation (u .nodes) j)) (u .waiting)) (closedAt (u .closed) v)
+
+  closers : upto (closerb u) m ≡ (upto namesb (length (u .closed)) && upto cheapestb (length (u .closed)))
+  closers = ap (upto (closerb u)) (sym closed-length) ∙ upto-both namesb cheapestb (length (u .closed))
+
+  some : ltb 0 (length (u .nodes)) ≡ ltb 0 (getD t 1 0)
+  some = ap (ltb 0) (tree-nodes m l t)
+
+  passes : (formedb l t && soundb d u) ≡ true → allb (treeTests d m l t) ≡ true
+  unfolding formedb soundb
+  passes e =
+      let r = and-true (formedb l t) (soundb d u) e in
+      let f = all-true (formTests l t) (r .0) in
+      let s = all-true (soundTests d u) (r .1) in
+      let queue = f .1 .1 in
+      let spare = queue .1 .1 .1 in
+      let root = s .1 in
+      let hangs = root .1 .1 .1 .1 .1 .1 in
+      let closed = hangs .1 .1 .1 .1 in
+      true-given (treeTests d m l t)
+      (true-given (countTests l t) (sym some ∙ s .0) (f .0) (f .1 .0))
+      (true-given (rootTests d u) (root .0) (root .1 .0) (root .1 .1 .0) (root .1 .1 .1 .0) (root .1 .1 .1 .1 .0) (root .1 .1 .1 .1 .1 .0))
+      (hangs .0)
+      (true-given (tablesTests d m l t)
+      (true-given (queueTests l t (getD t 2 0)) (queue .0) (queue .1 .0) (queue .1 .1 .0))
+      (closers ∙ true-and _ _ (closed .0) (closed .1 .0))
+      (closed .1 .1 .0)
+      (closed .1 .1 .1 .0)
+      (closed .1 .1 .1 .1 .0))
+      (true-given (spareTests l t) (spare .0) (spare .1 .0))
+
+  passed : allb (treeTests d m l t) ≡ true → (formedb l t && soundb d u) ≡ true
+  unfolding formedb soundb
+  passed e =
+      let r = all-true (treeTests d m l t) e in
+      let c = all-true (countTests l t) (r .0) in
+      let root = all-true (rootTests d u) (r .1 .0) in
+      let tables = all-true (tablesTests d m l t) (r .1 .1 .1 .0) in
+      let queue = all-true (queueTests l t (getD t 2 0)) (tables .0) in
+      let closed = and-true _ _ (sym closers ∙ tables .1 .0) in
+      let spare = all-true (spareTests l t) (r .1 .1 .1 .1 .0) in
+      true-and (formedb l t) (soundb d u)
+      (true-given (formTests l t) (c .1 .0) (c .1 .1 .0) (queue .0) (queue .1 .0) (queue .1 .1 .0) (spare .0) (spare .1 .0))
+      (true-given (soundTests d u)
+      (some ∙ c .0)
+      (root .0)
+      (root .1 .0)
+      (root .1 .1 .0)
+      (root .1 .1 .1 .0)
+      (root .1 .1 .1 .1 .0)
+      (root .1 .1 .1 .1 .1 .0)
+      (r .1 .1 .0)
+      (waiting-nodes m l t)
+      (waiting-ascends m l t)
+      (eq-eqb _ _ (closed-length ∙ sym (vertex-count-in m l ws (omega (arith, h .held .fits)))))
+      (closed .0)
+      (closed .1)
+      (tables .1 .1 .0)
+      (tables .1 .1 .1 .0)
+      (tables .1 .1 .1 .1 .0))
+
+  pub tree-tests : treeWordsb d m l t ≡ allb (treeTests d m l t)
+  unfolding treeWordsb
+  tree-tests = same-tests _ _ passes passed
+
+-- ---- what each answer says, in turn
+
+module _ {m l : ℕ} {ws t : List ℕ} (h : CanCheck m l ws t) where
+  -- test k fails
+  pub tree-fails : (k : ℕ) {a : Bool} → a ≡ getD (treeTests (domainOf m l ws) m l t) k true → not a ≡ true → false ≡ treeWordsb (domainOf m l ws) m l t
+  tree-fails k {a} e n = sym (tree-tests m l ws t h ∙ all-fails (treeTests (domainOf m l ws) m l t) k (sym e ∙ not-true a n))
+
+  module _ {a : Bool} (ea : a ≡ allb (countTests l t)) (pa : not a ≡ false) where
+    pub counted : Counted m l ws t
+    counted =
+        let c = all-true (countTests l t) (sym ea ∙ not-false a pa) in
+        record { can = h; some-node = ltb-true 0 _ (c .0); used = leb-true _ _ (c .1 .0); queued = leb-true _ _ (c .1 .1 .0) }
+
+    pub has-spare : HasSpare l t
+    has-spare = record {
+      edges = h .held .sized .edges;
+      fits = omega (arith, h .len);
+      used = counted .used;
+      queued = counted .queued;
+    }
+
+    module _ {b c : Bool} (eb : b ≡ allb (rootTests (domainOf m l ws) (treeIn m l t))) (pb : not b ≡ false) (ec : c ≡ hangAllb (domainOf m l ws) (treeIn m l t)) (pc : not c ≡ false) where
+      pub hung : Hung m l ws t
+      hung = hung-at m l ws t counted (sym eb ∙ not-false b pb) (sym ec ∙ not-false c pc)
+
+      pub tree-last : {x y : Bool} → x ≡ allb (tablesTests (domainOf m l ws) m l t) → not x ≡ false → y ≡ allb (spareTests l t) → y ≡ treeWordsb (domainOf m l ws) m l t
+      tree-last {x} ex px ey =
+          ey
+          ∙ read-last {cs = treeTests (domainOf m l ws) m l t} refl 4 refl (sym ea ∙ not-false a pa) (sym eb ∙ not-false b pb) (sym ec ∙ not-false c pc) (sym ex ∙ not-false x px)
+          ∙ sym (tree-tests m l ws t h)

@@ -1,0 +1,118 @@
+-- The waiting list of a tree has the members of the queue words, if these are all nodes; the first of them costs least.
+-- Assumes nothing.
+use mathlib.Core.Path.{_≡_, refl, sym, ap, _∙_}
+use mathlib.Core.Bool.{Bool, true, false}
+use mathlib.Core.List.{List, List·Memᴰ}
+use Prim.Native.Nat.{ℕ, _+_, _<_, _≤_}
+use native.Mathlib.Omega.{arith}
+use native.Mathlib.Nat.{add-zero}
+use lib.Dec.{leb}
+use lib.ListN.{length, getD}
+use borrow.Author.Tests.{ltb-true, leb-true, lt-ltb, le-leb}
+use Rattle.model.specs.Lists.{numbers, mem, allBelow, allIn, anyIn}
+use Rattle.model.specs.Tree.{Node, evaluation}
+use Rattle.model.proofs.Bools.{all-true, all-below, all-in-at, at-all-in, any-in-at, at-any-in}
+use Rattle.model.proofs.Lists.{numbers-has, those-mem, those-has, mem-listed, listed-mem}
+use Rattle.layout.specs.Layout.{queueAt, part}
+use Rattle.layout.specs.Read.{treeIn}
+use Rattle.layout.specs.Sound.{queueIn}
+use Rattle.layout.proofs.Trees.{tree-node}
+use Rattle.queue.specs.Queue.{evaluationIn, key, rank, Heap}
+use Rattle.queue.proofs.Heap.{heap-least}
+use Rattle.queue.proofs.Times.{times-place, place-times}
+use Rattle.tree.proofs.Parts.{below-at}
+use Rattle.tree.proofs.Form.{heap-at}
+use Rattle.tree.proofs.Waiting.{mem-times}
+use Rattle.sound.specs.Check.{queueTests, Waits}
+
+-- two tests that pass together are one
+pub same-tests : (a b : Bool) → (a ≡ true → b ≡ true) → (b ≡ true → a ≡ true) → a ≡ b
+same-tests true b f g = sym (f refl)
+same-tests false true f g = g refl
+same-tests false false f g = refl
+
+module _ (m l : ℕ) (t : List ℕ) (below : allBelow (getD t 1 0) (queueIn l t) ≡ true) where
+  waiting-queued : (k : ℕ) → List·Memᴰ k (treeIn m l t .waiting) → List·Memᴰ k (queueIn l t)
+  unfolding treeIn
+  waiting-queued k h = mem-listed k (queueIn l t) (those-mem (λ n. mem n (queueIn l t)) (numbers (getD t 1 0)) k h .1)
+
+  queued-waiting : (k : ℕ) → List·Memᴰ k (queueIn l t) → List·Memᴰ k (treeIn m l t .waiting)
+  unfolding treeIn
+  queued-waiting k h =
+      let e : mem k (queueIn l t) ≡ true = listed-mem k (queueIn l t) h in
+      those-has (λ n. mem n (queueIn l t)) (numbers (getD t 1 0)) k (numbers-has (getD t 1 0) k (all-below (getD t 1 0) (queueIn l t) below k e)) e
+
+  pub all-waiting : (p : ℕ → Bool) → allIn p (treeIn m l t .waiting) ≡ allIn p (queueIn l t)
+  all-waiting p =
+      same-tests _ _ (λ e. at-all-in p (queueIn l t) (λ k h. all-in-at p (treeIn m l t .waiting) e k (queued-waiting k h)))
+      (λ e. at-all-in p (treeIn m l t .waiting) (λ k h. all-in-at p (queueIn l t) e k (waiting-queued k h)))
+
+  pub any-waiting : (p : ℕ → Bool) → anyIn p (treeIn m l t .waiting) ≡ anyIn p (queueIn l t)
+  any-waiting p =
+      same-tests _ _
+      (λ e. let r = any-in-at p (treeIn m l t .waiting) e in at-any-in p (queueIn l t) (r .0) (waiting-queued (r .0) (r .1)) (r .2))
+      (λ e. let r = any-in-at p (queueIn l t) e in at-any-in p (treeIn m l t .waiting) (r .0) (queued-waiting (r .0) (r .1)) (r .2))
+
+  pub mem-waiting : (k : ℕ) → mem k (treeIn m l t .waiting) ≡ mem k (queueIn l t)
+  mem-waiting k =
+      same-tests _ _
+      (λ e. listed-mem k (queueIn l t) (waiting-queued k (mem-listed k (treeIn m l t .waiting) e)))
+      (λ e. listed-mem k (treeIn m l t .waiting) (queued-waiting k (mem-listed k (queueIn l t) e)))
+
+-- what a node costs
+pub cost-is : (m l : ℕ) (t : List ℕ) (k : ℕ) → k < getD t 1 0 → evaluation (treeIn m l t .nodes) k ≡ evaluationIn t k
+cost-is m l t k h = ap (λ (x : Node). x .cost) (tree-node m l t k h)
+
+-- ---- the first queue word names a waiting node of the least cost
+
+module _ (l : ℕ) (t : List ℕ) (w : Waits l t) where
+  fits : queueAt l + getD t 2 0 ≤ length t
+  fits = omega (arith, w .queued, w .fits)
+
+  pub all-below-used : allBelow (getD t 1 0) (queueIn l t) ≡ true
+  all-below-used = all-true (queueTests l t (getD t 2 0)) (w .queue) .0
+
+  pub queued-node : (i : ℕ) → i < getD t 2 0 → getD t (queueAt l + i) 0 < getD t 1 0
+  queued-node = below-at t (queueAt l) (getD t 2 0) (getD t 1 0) fits all-below-used
+
+  heap : Heap (rank t (queueAt l)) (getD t 2 0)
+  heap = heap-at l t fits (omega (arith, w .used, w .edges)) queued-node (all-true (queueTests l t (getD t 2 0)) (w .queue) .1 .1 .0)
+
+  first-least : (i : ℕ) → i < getD t 2 0 → evaluationIn t (getD t (queueAt l) 0) ≤ evaluationIn t (getD t (queueAt l + i) 0)
+  unfolding rank key
+  first-least i h =
+      let least : key t (getD t (queueAt l) 0) ≤ key t (getD t (queueAt l + i) 0) = rw add-zero at (heap-least heap i h) in
+      omega (arith, queued-node i h, w .used, w .edges)
+
+  first-queued : 0 < getD t 2 0 → List·Memᴰ (getD t (queueAt l) 0) (queueIn l t)
+  first-queued some =
+      let often = rw add-zero at (place-times t (queueAt l) (getD t 2 0) 0 some) in
+      mem-listed (getD t (queueAt l) 0) (queueIn l t) (mem-times t (queueAt l) (getD t 2 0) _ fits ∙ lt-ltb 0 _ often)
+
+  queued-least : (k : ℕ) → List·Memᴰ k (queueIn l t) → (k < getD t 1 0) × (evaluationIn t (getD t (queueAt l) 0) ≤ evaluationIn t k)
+  queued-least k h =
+      let often = ltb-true 0 _ (sym (mem-times t (queueAt l) (getD t 2 0) k fits) ∙ listed-mem k (queueIn l t) h) in
+      let place = times-place t (queueAt l) (getD t 2 0) k often in
+      rw (← place .2) (queued-node (place .0) (place .1), first-least (place .0) (place .1))
+
+module _ (m l : ℕ) (t : List ℕ) (w : Waits l t) where
+  pub none-waits : (p : ℕ → Bool) → getD t 2 0 ≡ 0 → allIn p (treeIn m l t .waiting) ≡ true
+  unfolding allIn
+  none-waits p e = all-waiting m l t (all-below-used l t w) p ∙ ap (λ (n : ℕ). allIn p (part (queueAt l) n t)) e
+
+  pub waiting-first : (c : ℕ) → 0 < getD t 2 0
+      → allIn (λ j. leb c (evaluation (treeIn m l t .nodes) j)) (treeIn m l t .waiting) ≡ leb c (evaluationIn t (getD t (queueAt l) 0))
+  waiting-first c some = all-waiting m l t (all-below-used l t w) p ∙ same-tests _ _ at-first from-first
+    where
+      p : ℕ → Bool
+      p j = leb c (evaluation (treeIn m l t .nodes) j)
+
+      at-first : allIn p (queueIn l t) ≡ true → leb c (evaluationIn t (getD t (queueAt l) 0)) ≡ true
+      at-first e =
+          let h = first-queued l t w some in
+          rw (cost-is m l t _ (queued-least l t w _ h .0)) at (all-in-at p (queueIn l t) e (getD t (queueAt l) 0) h)
+
+      from-first : leb c (evaluationIn t (getD t (queueAt l) 0)) ≡ true → allIn p (queueIn l t) ≡ true
+      from-first e = at-all-in p (queueIn l t) (λ k h.
+          let r = queued-least l t w k h in
+          le-leb c (evaluation (treeIn m l t .nodes) k) (omega (arith, leb-true c _ e, cost-is m l t k (r .0))))

@@ -1,0 +1,41 @@
+-- `nodes_hang` meets its contract: the nodes below `i` hang.
+-- Assumes nothing.
+use Prim.Native.Nat.{_-_}
+use borrow.Author.Needs.{needs}
+use Rattle.sound.proofs.Nodes.{HangTo, hang-none, hang-more, hang-fails, hang-all}
+use Rattle.sound.proofs.trees.nodes_hang.Statement.{statement}
+use Rattle.sound.proofs.trees.nodes_hang.Tie as tie
+
+abbrev Inv-loop : tie.InvT-loop
+Inv-loop words vertices edges tree used i₀ i = HangTo vertices edges words tree i
+
+abbrev μ-loop : tie.MeasureT-loop
+μ-loop words vertices edges tree used i₀ i = used - i
+
+loop-holds : tie.Need-loop-holds Inv-loop μ-loop
+loop-holds c = search hang-none
+
+returns : tie.Need-returns Inv-loop μ-loop
+returns c = search hang-fails
+
+loop-again : tie.Need-loop-again Inv-loop μ-loop
+loop-again c = search hang-more
+
+returns-2 : tie.Need-returns-2 Inv-loop μ-loop
+returns-2 c = search hang-all
+
+pub nodes-hang-spec : {M : Type 1} → statement M
+nodes-hang-spec =
+    tie.close
+    (tie.spec
+    Inv-loop
+    μ-loop
+    (λ c. search needs)
+    (λ c κs. search needs)
+    loop-holds
+    (λ c κs. search needs)
+    returns
+    (λ c. search needs)
+    (λ c. search needs)
+    loop-again
+    returns-2)

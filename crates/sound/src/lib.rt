@@ -1,0 +1,171 @@
+// Whether the words of a cache are sound, as every call asks before it does anything else. Any words may be handed in. The
+// definition stands in `layout`, specs/Sound.antt; the order here is its order, and each function answers by clauses of it.
+pub mod trees;
+
+use crate::trees::is_zero;
+use crate::trees::tree_is_sound;
+use layout::wide;
+use text::counts::MAX_COST;
+use text::counts::MAX_EDGES;
+use text::counts::MAX_VERTICES;
+ghost use mathlib.Core.Path.{_≡_};
+ghost use mathlib.Core.Bool.{true, false};
+ghost use Prim.Native.Nat.{_+_, _<_, _≤_};
+ghost use lib.ListN.{length, getD, replicate};
+ghost use Rattle.model.specs.Lists.{allb, upto};
+ghost use Rattle.layout.specs.Layout.{initialAt};
+ghost use Rattle.layout.specs.Read.{readCache, graphIn};
+ghost use Rattle.layout.specs.Sound.{headerTests, initialb, edgeTests, graphTests, treesTests, soundWordsb};
+ghost use Rattle.sound.specs.Check.{CanCheckTrees, HasGraph, TreesIn, treesb};
+
+// Whether the words are those of a sound cache.
+pub fn is_sound(words: &[u32]) -> bool
+    ensures { λ r. ⌜ r ≡ soundWordsb (now (words .entry)) ⌝ }
+{
+    if !header_is_sound(words) {
+        return false;
+    }
+    if !graph_is_sound(words) {
+        return false;
+    }
+    trees_are_sound(words)
+}
+
+fn header_is_sound(words: &[u32]) -> bool
+    ensures { λ r. ⌜ r ≡ allb (headerTests (now (words .entry))) ⌝ }
+{
+    if words.len() <= layout::TREES {
+        return false;
+    }
+    if 1 < words[layout::DIRECTION] {
+        return false;
+    }
+    let vertices = layout::header(words, layout::VERTICES);
+    let edges = layout::header(words, layout::EDGES);
+    let slots = layout::header(words, layout::SLOTS);
+    if MAX_VERTICES < vertices {
+        return false;
+    }
+    if MAX_EDGES < edges {
+        return false;
+    }
+    if slots == 0 {
+        return false;
+    }
+    if layout::MAX_SLOTS < slots {
+        return false;
+    }
+    if slots < layout::header(words, layout::TREES) {
+        return false;
+    }
+    layout::words_needed(vertices, edges, slots) <= words.len()
+}
+
+fn graph_is_sound(words: &[u32]) -> bool
+    requires { ⌜ allb (headerTests (now words)) ≡ true ⌝ }
+    ensures { λ r. ⌜ r ≡ allb (graphTests (readCache (now (words .entry)) .domain) (now (words .entry))) ⌝ }
+{
+    let vertices = layout::header(words, layout::VERTICES);
+    let edges = layout::header(words, layout::EDGES);
+    if !initials_are_sound(words, vertices) {
+        return false;
+    }
+    if !edges_are_sound(words, vertices, edges) {
+        return false;
+    }
+    graph::simple::index_is_sound(words, words[layout::DIRECTION], vertices, edges)
+}
+
+fn initials_are_sound(words: &[u32], vertices: usize) -> bool
+    requires { ⌜ initialAt + vertices ≤ length (now words) ⌝ }
+    ensures { λ r. ⌜ r ≡ upto (λ v. initialb (getD (now (words .entry)) (initialAt + v) 0)) vertices ⌝ }
+{
+    let mut v = 0;
+    while v < vertices {
+        if !is_initial(layout::initial_cost(words, v)) {
+            return false;
+        }
+        v += 1;
+    }
+    true
+}
+
+fn is_initial(cost: u32) -> bool
+    ensures { λ r. ⌜ r ≡ initialb cost ⌝ }
+{
+    if cost == layout::ABSENT {
+        return true;
+    }
+    wide(cost) <= MAX_COST
+}
+
+fn edges_are_sound(words: &[u32], vertices: usize, edges: usize) -> bool
+    requires { ⌜ HasGraph vertices edges (now words) ⌝ }
+    ensures { λ r. ⌜ r ≡ upto (λ e. allb (edgeTests (graphIn vertices edges (now (words .entry))) e)) edges ⌝ }
+{
+    let mut e = 0;
+    while e < edges {
+        if !edge_is_sound(words, vertices, edges, e) {
+            return false;
+        }
+        e += 1;
+    }
+    true
+}
+
+fn edge_is_sound(words: &[u32], vertices: usize, edges: usize, edge: usize) -> bool
+    requires { ⌜ HasGraph vertices edges (now words) × (edge < edges) ⌝ }
+    ensures { λ r. ⌜ r ≡ allb (edgeTests (graphIn vertices edges (now (words .entry))) edge) ⌝ }
+{
+    if vertices <= wide(layout::edge_word(words, vertices, edge, layout::FROM)) {
+        return false;
+    }
+    if vertices <= wide(layout::edge_word(words, vertices, edge, layout::TO)) {
+        return false;
+    }
+    wide(layout::edge_word(words, vertices, edge, layout::COST)) <= MAX_COST
+}
+
+fn trees_are_sound(words: &[u32]) -> bool
+    requires { ⌜ CanCheckTrees (now words) ⌝ }
+    ensures { λ r. ⌜ r ≡ allb (treesTests (now (words .entry))) ⌝ }
+{
+    let vertices = layout::header(words, layout::VERTICES);
+    let edges = layout::header(words, layout::EDGES);
+    let trees = layout::header(words, layout::TREES);
+    let mut starts = [false; MAX_VERTICES];
+    if !trees_in_use_are_sound(words, vertices, edges, trees, &mut starts[0..MAX_VERTICES]) {
+        return false;
+    }
+    let at = layout::slot_at(vertices, edges, trees);
+    let end = layout::slot_at(vertices, edges, layout::header(words, layout::SLOTS));
+    is_zero(&words[at..end])
+}
+
+// The slots in use, with a mark for each vertex at which a tree starts. All marks are off at first.
+fn trees_in_use_are_sound(
+    words: &[u32],
+    vertices: usize,
+    edges: usize,
+    trees: usize,
+    starts: &mut [bool],
+) -> bool
+    requires { ⌜ TreesIn vertices edges trees (now words) × (now starts ≡ replicate 1024 false) ⌝ }
+    ensures { λ r. ⌜ r ≡ treesb vertices edges trees (now (words .entry)) ⌝ }
+{
+    let mut i = 0;
+    while i < trees {
+        let at = layout::slot_at(vertices, edges, i);
+        let end = at + layout::tree_words(vertices, edges);
+        if !tree_is_sound(words, vertices, edges, &words[at..end]) {
+            return false;
+        }
+        let start = wide(words[at + layout::START]);
+        if starts[start] {
+            return false;
+        }
+        starts[start] = true;
+        i += 1;
+    }
+    true
+}
