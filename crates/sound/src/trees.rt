@@ -258,7 +258,9 @@ fn closed_word_is_sound(tree: &[u32], edges: usize, vertex: usize) -> bool
         return true;
     }
     let first = tree[layout::queue_at(edges)];
-    queue::evaluation(tree, node) <= queue::evaluation(tree, first)
+    let cost = queue::evaluation(tree, node);
+    let least = queue::evaluation(tree, first);
+    cost <= least
 }
 
 // How many edges leave closed vertices.
@@ -332,7 +334,8 @@ fn edge_leads_on(
             return true;
         }
     }
-    wide(costs[to]) <= sum
+    let waiting = wide(costs[to]);
+    waiting <= sum
 }
 
 // Unused nodes and queue words are 0.
