@@ -9,3 +9,4 @@ pub mod Tickets
 pub mod Room
 pub mod Kept
 pub mod Growing
+pub mod Examples

@@ -15,6 +15,9 @@ ghost use Rattle.model.specs.Tree.{pushAll, pushNode, child, above};
 ghost use Rattle.layout.specs.Layout.{Sized};
 ghost use Rattle.grow.specs.Grow.{CanGrow, Grew, slotOf, treeAt, domainAt, Holds, CanPushChoice, CanPushChoices, CanVisit, Visits, GoesOn};
 
+// "at most ten tickets": the Rust's `iterations_per_step`.
+pub const ITERATIONS_PER_STEP: usize = 10;
+
 // The tickets taken, and the goal's node if one was closed.
 pub struct Growth {
     pub tickets: usize,
@@ -45,7 +48,7 @@ pub fn grow(words: &mut [u32], slot: usize, goals: &[u32], bound: CostBound) -> 
     let s = slot_of(words, slot);
     let at = s.at;
     let end = s.end;
-    let mut left: usize = 10;
+    let mut left = ITERATIONS_PER_STEP;
     let mut tickets: usize = 0;
     while 0 < left {
         let Popped::Ticket(node, _) = tree::pop(&mut words[at..end], s.edges) else {

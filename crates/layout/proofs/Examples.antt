@@ -8,7 +8,7 @@ use Prim.Native.Nat.{ℕ}
 use lib.ListN.{set, take}
 use Rattle.layout.specs.Sound.{soundWordsb}
 
-sample : List ℕ
+unfoldable pub sample : List ℕ
 sample =
     -- header: forward, 4 vertices, 3 edges, 3 slots, 2 trees
     0 ∷ 4 ∷ 3 ∷ 3 ∷ 2
@@ -210,3 +210,16 @@ unused-queue-word = refl
 unused-slot-word : soundWordsb (set sample 87 1) ≡ false
 unfolding soundWordsb sample
 unused-slot-word = refl
+
+-- ---- one vertex, closed by the root of its tree; in docs/DIFFERENCES.md the words of entry 8
+
+smallest : List ℕ
+smallest = 0 ∷ 1 ∷ 0 ∷ 1 ∷ 1 ∷ 0 ∷ 0 ∷ 0 ∷ 0 ∷ 1 ∷ 0 ∷ 0 ∷ 0 ∷ 4294967295 ∷ 4294967295 ∷ 0 ∷ 1 ∷ []
+
+smallest-sound : soundWordsb smallest ≡ true
+unfolding soundWordsb smallest
+smallest-sound = refl
+
+closed-by-next : soundWordsb (set smallest 16 2) ≡ false
+unfolding soundWordsb smallest
+closed-by-next = refl
