@@ -10,9 +10,8 @@ use Rattle.model.specs.Graph.{Graph, Direction, Domain, domain, Accepted, verte
 use Rattle.layout.specs.Layout.{initialAt, edgesAt, placesAt, numbersAt, slotsAt, treeWords}
 use Rattle.layout.specs.Words.{headerOf, edgeWords, firstPlace, firstPlaces, openedWords}
 use Rattle.layout.proofs.Edges.{edge-words-length, from-word, to-word, cost-word}
-use Rattle.graph.proofs.Filled.{map-up-at}
 use Rattle.graph.proofs.Lines.{held-initial}
-use Rattle.graph.proofs.Lengths.{first-places-length, edge-numbers-length}
+use Rattle.graph.proofs.Lengths.{first-places-length, first-place-at, edge-numbers-length}
 use Rattle.graph.proofs.Written.{domain-counts}
 use Rattle.cache.proofs.Opened.{front, front-length, opened-split, opened-graph}
 
@@ -79,14 +78,11 @@ module _ (dir : Direction) (g : Graph) (t : ℕ) (rest : List ℕ) where
   split = apart ∙ simp append-assoc
 
   pub place-word : (v : ℕ) → v ≤ m → getD ws (placesAt m l + v) 0 ≡ firstPlace d v
-  unfolding firstPlaces
   place-word v h =
-      let place : 0 + v ≡ v = omega arith in
       ap (λ (x : List ℕ). getD x (placesAt m l + v) 0) split
       ∙ word-behind edged (firstPlaces d) (edgeNumbers d ++ (zeros ++ rest)) (placesAt m l) v edged-length
       (omega (arith, first-places-length d, domain-counts dir g))
-      ∙ map-up-at (firstPlace d) (vertexCount (d .graph) + 1) 0 v (omega (arith, domain-counts dir g))
-      ∙ ap (firstPlace d) place
+      ∙ first-place-at d v (omega (arith, domain-counts dir g))
 
   pub number-word : Accepted g → (i : ℕ) → i < l → getD ws (numbersAt m l + i) 0 ≡ getD (edgeNumbers d) i 0
   number-word ok i h =

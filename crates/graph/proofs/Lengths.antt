@@ -1,13 +1,13 @@
--- How many words a graph has.
+-- How many words a graph has, and the first places among them.
 -- Assumes nothing.
 use mathlib.Core.Path.{_≡_, ap, _∙_}
 use mathlib.Core.List.{_++_}
-use Prim.Native.Nat.{ℕ, _+_, _*_, _<_}
+use Prim.Native.Nat.{ℕ, _+_, _*_, _<_, _≤_}
 use native.Mathlib.Omega.{arith}
 use lib.ListN.{length, getD, length-append, length-map}
 use Rattle.model.specs.Lists.{numbers}
 use Rattle.model.specs.Graph.{Graph, Direction, forward, backward, Domain, domain, Accepted, vertexCount, edgeCount, edgesInUse, from, to, edgeNumbers}
-use Rattle.model.proofs.Lists.{up-length, numbers-mem}
+use Rattle.model.proofs.Lists.{up-length, numbers-mem, map-up-at}
 use Rattle.model.proofs.Reversed.{accepted-domain}
 use Rattle.layout.specs.Words.{edgeWords, firstPlace, firstPlaces, graphWords}
 use Rattle.layout.proofs.Edges.{edge-words-length}
@@ -46,6 +46,12 @@ edge-numbers-length backward g ok = numbers-length backward _ (accepted-domain b
 pub first-places-length : (d : Domain) → length (firstPlaces d) ≡ vertexCount (d .graph) + 1
 unfolding firstPlaces
 first-places-length d = length-map (numbers (vertexCount (d .graph) + 1)) (firstPlace d) ∙ up-length (vertexCount (d .graph) + 1) 0
+
+pub first-place-at : (d : Domain) (v : ℕ) → v ≤ vertexCount (d .graph) → getD (firstPlaces d) v 0 ≡ firstPlace d v
+unfolding firstPlaces
+first-place-at d v h =
+    let place : 0 + v ≡ v = omega arith in
+    map-up-at (firstPlace d) 0 (vertexCount (d .graph) + 1) 0 v (omega arith) ∙ ap (firstPlace d) place
 
 pub graph-words-length : (dir : Direction) (g : Graph) → Accepted g → length (graphWords (domain dir g)) ≡ 1 + 2 * vertexCount g + 4 * edgeCount g
 unfolding graphWords

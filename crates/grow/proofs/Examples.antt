@@ -17,7 +17,7 @@ use Rattle.layout.specs.Read.{readCache}
 use Rattle.layout.specs.Sound.{slotWords}
 use Rattle.layout.proofs.Trees.{tree-nodes}
 use Rattle.layout.proofs.Examples.{sample}
-use Rattle.tree.proofs.Parts.{part-at}
+use Rattle.layout.proofs.Places.{part-at}
 use Rattle.sound.proofs.Facts.{tree-read}
 use Rattle.grow.specs.declared.Growth.{Growth as Grown}
 use Rattle.grow.specs.Grow.{growthOf, Grew}

@@ -25,7 +25,7 @@ use Rattle.grow.specs.declared.Going.{Going as Next}
 use Rattle.grow.specs.declared.Going.the-variants as next
 use Rattle.grow.specs.declared.Slot.{Slot}
 use Rattle.grow.specs.Grow.{CanGrow, growthOf, Grew, slotOf, treeAt, domainAt, Ready, Holds, CanVisit, goingOf, Visits}
-use Rattle.grow.proofs.Slots.{tree-at, mid-slot, put-holds, holds-trans, holds-refl, ready-after, domain-after}
+use Rattle.grow.proofs.Slots.{mid-slot, tree-lent, put-holds, holds-trans, holds-refl, ready-after, domain-after}
 use Rattle.grow.proofs.Tickets.{stepped, ticket-is, ticket-none, ticket-sound, grow-over, grow-found}
 use Rattle.grow.proofs.Room.{can-visit}
 use Rattle.grow.proofs.Kept.{slot-ready, kept}
@@ -98,9 +98,6 @@ module _ {ws : List ℕ} {i : ℕ} {gs : List ℕ} {b : CostBound} {s : Slot} {w
   unfolding grow
   growing-all h = let e : left ≡ 0 = omega arith in finished (rw e at (g .grows)) (g .holds)
 
-  part-tree : treeOf (s .edges) lent ≡ t
-  part-tree = ap (treeOf (s .edges)) (mid-slot (g .ready .slot) words) ∙ tree-at (g .ready)
-
   pub can-take : Formed (s .edges) lent
   can-take = subst (Formed (s .edges)) (sym (mid-slot (g .ready .slot) words)) (g .ready .formed)
 
@@ -122,7 +119,7 @@ module _ {ws : List ℕ} {i : ℕ} {gs : List ℕ} {b : CostBound} {s : Slot} {w
         → Grew ws i gs b (record { tickets = tickets; solution = Unsolved }) mid
     growing-dry p e =
         let q : PopIs (s .edges) lent ys Empty = rw e at p in
-        let none-left : least (t .nodes) (t .waiting) ≡ none = subst (λ (x : Tree). least (x .nodes) (x .waiting) ≡ none) part-tree (q .0) in
+        let none-left : least (t .nodes) (t .waiting) ≡ none = subst (λ (x : Tree). least (x .nodes) (x .waiting) ≡ none) (tree-lent (g .ready)) (q .0) in
         rw (q .1, put-same (s .at) (s .end - s .at) words)
         (finished (next-is ∙ ap (grow d gs b (left - 1)) (ticket-none d gs b t tickets none-left) ∙ grow-over d gs b (left - 1) t tickets) (g .holds))
 
@@ -131,13 +128,13 @@ module _ {ws : List ℕ} {i : ℕ} {gs : List ℕ} {b : CostBound} {s : Slot} {w
       pops = rw e at p
 
       least-is : least (t .nodes) (t .waiting) ≡ some k
-      least-is = subst (λ (x : Tree). least (x .nodes) (x .waiting) ≡ some k) part-tree (pops .first)
+      least-is = subst (λ (x : Tree). least (x .nodes) (x .waiting) ≡ some k) (tree-lent (g .ready)) (pops .first)
 
       left-tree : treeOf (s .edges) ys ≡ popped t k
-      left-tree = pops .tree ∙ ap (λ (x : Tree). popped x k) part-tree
+      left-tree = pops .tree ∙ ap (λ (x : Tree). popped x k) (tree-lent (g .ready))
 
       taken : Holds s words mid (popped t k)
-      taken = put-holds (g .ready) ys (same ∙ ap length (mid-slot (g .ready .slot) words)) (pops .formed) left-tree
+      taken = put-holds (g .ready) ys same (pops .formed) left-tree
 
       still : domainAt s mid ≡ d
       still = domain-after (g .ready) taken ∙ domain-after first (g .holds)

@@ -6,28 +6,20 @@ use mathlib.Core.List.{List}
 use Prim.Native.Nat.{ℕ, _+_, _<_}
 use native.Mathlib.Omega.{arith}
 use native.Mathlib.Decide.{ℕ-discrete, decLt}
-use lib.ListN.{length, getD, set, drop, length-set, length-take, length-drop}
+use lib.ListN.{getD, set, length-set}
 use lib.Seq.{ext-getD, getD-set-same, getD-set-other}
 use Rattle.model.specs.Tree.{Tree}
 use Rattle.model.specs.Sound.{Sound, noTree}
 use Rattle.model.specs.Calls.{withTrees}
-use Rattle.layout.specs.Layout.{treeWords, slotsAt, slotAt, part}
+use Rattle.layout.specs.Layout.{treeWords, slotsAt, slotAt}
 use Rattle.layout.specs.Read.{treeIn, treesIn, domainOf, readCache}
 use Rattle.layout.specs.Sound.{slotWords}
 use Rattle.tree.specs.Tree.{Formed}
-use Rattle.tree.proofs.Parts.{part-at}
+use Rattle.tree.proofs.Same.{part-same}
 use Rattle.sound.specs.Facts.{SoundIn, SoundWords}
 use Rattle.sound.proofs.Slots.{slot-before, tree-in-at, trees-in-length}
 use Rattle.grow.specs.Grow.{slotOf, treeAt, Ready, Holds}
 use Rattle.grow.proofs.Slots.{ready-after, domain-after}
-
--- ---- words that stayed
-
-part-alike : (a n : ℕ) (s t : List ℕ) → length t ≡ length s → ((j : ℕ) → j < n → getD t (a + j) 0 ≡ getD s (a + j) 0) → part a n t ≡ part a n s
-part-alike a n s t e f =
-    ext-getD 0 (part a n t) (part a n s) (rw (length-take n (drop a t), length-take n (drop a s), length-drop a t, length-drop a s, e)) (λ i h.
-    let k : i < n = omega (arith, length-take n (drop a t)) in
-    part-at a n t i k ∙ f i k ∙ sym (part-at a n s i k))
 
 pub slot-ready : (ws : List ℕ) (i : ℕ) → SoundWords ws → i < getD ws 4 0 → Ready (slotOf ws i) ws
 slot-ready ws i ok used =
@@ -54,7 +46,7 @@ module _ (ws left : List ℕ) (i : ℕ) (u : Tree) (ok : SoundWords ws) (used : 
   below j b = h .outside .word j (inl (omega arith))
 
   other : (j : ℕ) → j ≢ i → slotWords m l j left ≡ slotWords m l j ws
-  other j ne = part-alike (slotAt m l j) (treeWords m l) ws left (h .outside .len) (λ n b. h .outside .word (slotAt m l j + n) (elim (decLt j i) [
+  other j ne = part-same (slotAt m l j) (treeWords m l) ws left (h .outside .len) (λ n b. h .outside .word (slotAt m l j + n) (elim (decLt j i) [
     | yes k ↦ inl (omega (arith, slot-before m l k))
     | no k ↦ let more : i < j = omega arith in inr (omega (arith, slot-before m l more))
   ]))

@@ -15,7 +15,7 @@ use Rattle.tree.specs.Tree.{CanPushNode, treeOf, nodeOf, Holds as Left}
 use Rattle.tree.specs.declared.Node.{Node as NodeWords}
 use Rattle.grow.specs.declared.Slot.{Slot}
 use Rattle.grow.specs.Grow.{treeAt, domainAt, Holds, CanPushChoice}
-use Rattle.grow.proofs.Slots.{slot-length, mid-slot, tree-at, put-holds}
+use Rattle.grow.proofs.Slots.{slot-length, mid-slot, tree-lent, put-holds}
 use Rattle.grow.proofs.Choices.{edge-below}
 
 -- e: the edge number read
@@ -89,6 +89,4 @@ module _ {s : Slot} {ws : List ℕ} {k p e : ℕ} (h : CanPushChoice s ws k p) (
           → Left (s .edges) ys (pushNode (treeOf (s .edges) (midOf (s .at) (s .end - s .at) ws)) (nodeOf new))
           → Holds s ws (putMid (s .at) (s .end - s .at) ws ys) (pushNode (treeAt s ws) (child (domainAt s ws) n k (getD (edgeNumbers (domainAt s ws)) p 0)))
       pushed {ys} len left =
-          let part = mid-slot (h .ready .slot) ws in
-          put-holds (h .ready) ys (len ∙ ap length part) (left .formed)
-          (left .tree ∙ ap₂ pushNode (ap (treeOf (s .edges)) part ∙ tree-at (h .ready)) child-is)
+          put-holds (h .ready) ys len (left .formed) (left .tree ∙ ap₂ pushNode (tree-lent (h .ready)) child-is)

@@ -22,7 +22,7 @@ module _ (d : Domain) (acc : Accepted (d .graph)) (t : Tree) (ok : Sound d t) wh
   pub node-cost : (n : ℕ) → n < length (t .nodes) → node (t .nodes) n .cost ≤ 2100000000
   node-cost n h = omega (arith, cost-bound d acc t ok n h, nodes-le d t ok, acc .edges)
 
-  pub choices-room : (v : ℕ) → v < vertexCount (d .graph) → closedAt (t .closed) v ≡ 0 → length (t .nodes) + length (choices d v) ≤ 1 + edgeCount (d .graph)
+  choices-room : (v : ℕ) → v < vertexCount (d .graph) → closedAt (t .closed) v ≡ 0 → length (t .nodes) + length (choices d v) ≤ 1 + edgeCount (d .graph)
   choices-room v h e =
       omega (
         arith,

@@ -1,6 +1,6 @@
 -- The words of a slot: what they are after a part was lent and has come back, and that the graph's words stay.
 -- Assumes nothing.
-use mathlib.Core.Path.{_≡_, refl, sym, ap, ap₂, subst, _∙_}
+use mathlib.Core.Path.{_≡_, refl, sym, ap, subst, _∙_}
 use mathlib.Core.Logic.{inl, inr}
 use mathlib.Core.List.{List}
 use Prim.Native.Nat.{ℕ, _+_, _-_, _<_, _≤_}
@@ -9,11 +9,12 @@ use lib.ListN.{length, getD, drop}
 use lib.Seq.{getD-take, getD-drop}
 use borrow.Rule.Slice.PartMut.{putMid, midOf, take-put, drop-put}
 use Rattle.model.specs.Tree.{Tree}
-use Rattle.layout.specs.Layout.{slotsAt, slotAt, treeWords, closedAt}
+use Rattle.layout.specs.Layout.{slotsAt, slotAt, treeWords}
 use Rattle.layout.specs.Read.{treeIn}
-use Rattle.graph.proofs.Parts.{mid-put, put-length}
+use Rattle.layout.proofs.Places.{part-length}
+use Rattle.graph.proofs.Parts.{mid-at, mid-put, put-length}
 use Rattle.tree.specs.Tree.{Formed, treeOf}
-use Rattle.tree.proofs.Parts.{part-length}
+use Rattle.tree.proofs.Same.{tree-of}
 use Rattle.sound.proofs.Held.{domain-same, held-same}
 use Rattle.grow.specs.declared.Slot.{Slot}
 use Rattle.grow.specs.Grow.{SlotIs, wordsIn, treeAt, domainAt, Ready, Outside, Holds}
@@ -26,18 +27,10 @@ slot-length {s} {ws} r =
 
 -- the part that is lent
 pub mid-slot : {s : Slot} → SlotIs s → (ws : List ℕ) → midOf (s .at) (s .end - s .at) ws ≡ wordsIn s ws
-mid-slot {s} h ws =
-    let size : s .end - s .at ≡ treeWords (s .vertices) (s .edges) = omega (arith, h .at, h .end) in
-    ap₂ (λ (a n : ℕ). midOf a n ws) (h .at) size
+mid-slot {s} h ws = mid-at ws (treeWords (s .vertices) (s .edges)) (h .at) (omega (arith, h .at, h .end))
 
--- all words behind the queue are closed words
-tree-of : (m l : ℕ) (ys : List ℕ) → length ys ≡ treeWords m l → treeOf l ys ≡ treeIn m l ys
-tree-of m l ys n =
-    let all : length ys - closedAt l ≡ m = omega (arith, n) in
-    ap (λ (k : ℕ). treeIn k l ys) all
-
-pub tree-at : {s : Slot} {ws : List ℕ} → Ready s ws → treeOf (s .edges) (wordsIn s ws) ≡ treeAt s ws
-tree-at {s} {ws} r = tree-of (s .vertices) (s .edges) (wordsIn s ws) (slot-length r)
+pub tree-lent : {s : Slot} {ws : List ℕ} → Ready s ws → treeOf (s .edges) (midOf (s .at) (s .end - s .at) ws) ≡ treeAt s ws
+tree-lent {s} {ws} r = ap (treeOf (s .edges)) (mid-slot (r .slot) ws) ∙ tree-of (s .vertices) (s .edges) (wordsIn s ws) (slot-length r)
 
 -- ---- a part that came back
 
@@ -56,7 +49,7 @@ module _ (l ys : List ℕ) (a e : ℕ) (ae : a ≤ e) (el : e ≤ length l) (n :
           let at : j ≡ e + (j - e) = omega arith in
           ap (λ (i : ℕ). getD x i 0) at ∙ sym (getD-drop e x (j - e) 0)
 
-pub put-holds : {s : Slot} {ws : List ℕ} {u : Tree} → Ready s ws → (ys : List ℕ) → length ys ≡ length (wordsIn s ws) → Formed (s .edges) ys → treeOf (s .edges) ys ≡ u
+pub put-holds : {s : Slot} {ws : List ℕ} {u : Tree} → Ready s ws → (ys : List ℕ) → length ys ≡ length (midOf (s .at) (s .end - s .at) ws) → Formed (s .edges) ys → treeOf (s .edges) ys ≡ u
     → Holds s ws (putMid (s .at) (s .end - s .at) ws ys) u
 put-holds {s} {ws} {u} r ys same formed tree = record {
   outside = record {
@@ -74,7 +67,7 @@ put-holds {s} {ws} {u} r ys same formed tree = record {
     ae = omega (arith, r .slot .at, r .slot .end)
 
     size : length ys ≡ treeWords (s .vertices) (s .edges)
-    size = same ∙ slot-length r
+    size = same ∙ ap length (mid-slot (r .slot) ws) ∙ slot-length r
 
     n : length ys ≡ s .end - s .at
     n = omega (arith, size, r .slot .at, r .slot .end)
@@ -84,7 +77,7 @@ put-holds {s} {ws} {u} r ys same formed tree = record {
 
 -- ---- one change after the other
 
-pub outside-trans : {m l i : ℕ} {ws mid left : List ℕ} → Outside m l i ws mid → Outside m l i mid left → Outside m l i ws left
+outside-trans : {m l i : ℕ} {ws mid left : List ℕ} → Outside m l i ws mid → Outside m l i mid left → Outside m l i ws left
 outside-trans a b = record { len = b .len ∙ a .len; word = λ j h. b .word j h ∙ a .word j h }
 
 pub holds-trans : {s : Slot} {ws mid left : List ℕ} {u v : Tree} → Holds s ws mid u → Holds s mid left v → Holds s ws left v

@@ -21,7 +21,7 @@ use Rattle.grow.specs.declared.Slot.{Slot}
 use Rattle.grow.specs.declared.Going.{Going}
 use Rattle.grow.specs.declared.Going.the-variants.{On}
 use Rattle.grow.specs.Grow.{isClosed, wordsIn, treeAt, domainAt, Holds, CanPushChoices, CanVisit, visitedIf, goingIf, GoesOn, Visits}
-use Rattle.grow.proofs.Slots.{slot-length, mid-slot, tree-at, put-holds, holds-refl, holds-trans, ready-after, domain-after}
+use Rattle.grow.proofs.Slots.{slot-length, mid-slot, tree-lent, put-holds, holds-refl, holds-trans, ready-after, domain-after}
 
 module _ {s : Slot} {ws : List ℕ} {n : ℕ} (h : CanVisit s ws n) where
   abbrev lent : List ℕ
@@ -32,9 +32,6 @@ module _ {s : Slot} {ws : List ℕ} {n : ℕ} (h : CanVisit s ws n) where
 
   abbrev tree : Tree
   tree = treeAt s ws
-
-  tree-lent : treeOf (s .edges) lent ≡ tree
-  tree-lent = ap (treeOf (s .edges)) part ∙ tree-at (h .ready)
 
   abbrev it : Node
   it = node (tree .nodes) n
@@ -58,7 +55,7 @@ module _ {s : Slot} {ws : List ℕ} {n : ℕ} (h : CanVisit s ws n) where
       })
 
       word-is : closedAt (treeOf (s .edges) lent .closed) w ≡ closedAt (tree .closed) (it .vertex)
-      word-is = ap₂ (λ (t : Tree) (x : ℕ). closedAt (t .closed) x) tree-lent (wide ∙ vertex-is)
+      word-is = ap₂ (λ (t : Tree) (x : ℕ). closedAt (t .closed) x) (tree-lent (h .ready)) (wide ∙ vertex-is)
 
       -- ys: the words that came back
       module _ (ys : List ℕ) (r : CloseResult) (closing : CloseIs (s .edges) lent ys w n r) where
@@ -90,8 +87,8 @@ module _ {s : Slot} {ws : List ℕ} {n : ℕ} (h : CanVisit s ws n) where
 
           closed : Holds s ws back (close tree (it .vertex) n)
           closed =
-              put-holds (h .ready) ys (len ∙ ap length part) (closes .formed)
-              (closes .tree ∙ ap₂ (λ (t : Tree) (x : ℕ). close t x n) tree-lent (wide ∙ vertex-is))
+              put-holds (h .ready) ys len (closes .formed)
+              (closes .tree ∙ ap₂ (λ (t : Tree) (x : ℕ). close t x n) (tree-lent (h .ready)) (wide ∙ vertex-is))
 
           domain : domainAt s back ≡ domainAt s ws
           domain = domain-after (h .ready) closed

@@ -4,12 +4,13 @@ use mathlib.Core.Path.{_≡_, refl, sym, ap, _∙_}
 use mathlib.Core.List.{List, [], _∷_, _++_}
 use Prim.Native.Nat.{ℕ, zero, suc, _+_, _*_, _<_, _≤_}
 use native.Mathlib.Omega.{arith}
-use lib.ListN.{length, getD, take, drop, length-drop}
-use lib.Seq.{length-take-le, getD-drop, drop-drop, take-at, drop-at}
+use lib.ListN.{length, getD, take, drop}
+use lib.Seq.{drop-drop, take-at, drop-at}
 use Rattle.model.specs.Graph.{Edge, Graph, noEdge, vertexCount, edgeCount, from, to, cost}
-use Rattle.layout.specs.Layout.{edgesAt}
+use Rattle.layout.specs.Layout.{initialAt, edgesAt, part}
 use Rattle.layout.specs.Words.{edgeWords}
 use Rattle.layout.specs.Read.{edgesIn, graphIn}
+use Rattle.layout.proofs.Places.{word-behind, part-at, part-length}
 
 -- ---- counts
 
@@ -23,11 +24,23 @@ edge-count-in m l ws = edges-in-length l (drop (edgesAt m) ws)
 
 pub vertex-count-in : (m l : ℕ) (ws : List ℕ) → 5 + m ≤ length ws → vertexCount (graphIn m l ws) ≡ m
 unfolding graphIn
-vertex-count-in m l ws h = length-take-le m (drop 5 ws) (omega (arith, length-drop 5 ws))
+vertex-count-in m l ws h = part-length 5 m ws h
 
 pub edge-words-length : (es : List Edge) → length (edgeWords es) ≡ 3 * length es
 edge-words-length [] = refl
 edge-words-length (e ∷ es) = omega (arith, edge-words-length es)
+
+-- ---- initial costs
+
+-- a word that is there is no default
+any-default : (ws : List ℕ) (i a b : ℕ) → i < length ws → getD ws i a ≡ getD ws i b
+any-default [] i a b h = absurd (omega arith)
+any-default (w ∷ ws) zero a b h = refl
+any-default (w ∷ ws) (suc i) a b h = any-default ws i a b (omega arith)
+
+pub initial-word : (m l : ℕ) (ws : List ℕ) (v a : ℕ) → v < m → 5 + m ≤ length ws → getD (graphIn m l ws .initial) v a ≡ getD ws (initialAt + v) 0
+unfolding graphIn
+initial-word m l ws v a h fits = any-default (part initialAt m ws) v a 0 (omega (arith, part-length initialAt m ws fits)) ∙ part-at initialAt m ws v h
 
 -- ---- an edge's words
 
@@ -36,10 +49,11 @@ abbrev edgeAt : List ℕ → ℕ → Edge
 edgeAt ws at = record { from = getD ws at 0; to = getD ws (at + 1) 0; cost = getD ws (at + 2) 0 }
 
 edge-at-drop : (n : ℕ) (ws : List ℕ) (j k : ℕ) → n + j ≡ k → edgeAt (drop n ws) j ≡ edgeAt ws k
-edge-at-drop n ws j k e = λ i. record { from = word j k e i; to = word (j + 1) (k + 1) (omega arith) i; cost = word (j + 2) (k + 2) (omega arith) i }
-  where
-    word : (a b : ℕ) → n + a ≡ b → getD (drop n ws) a 0 ≡ getD ws b 0
-    word a b e = getD-drop n ws a 0 ∙ ap (λ (c : ℕ). getD ws c 0) e
+edge-at-drop n ws j k e = λ i. record {
+  from = word-behind n ws j k e i;
+  to = word-behind n ws (j + 1) (k + 1) (omega arith) i;
+  cost = word-behind n ws (j + 2) (k + 2) (omega arith) i;
+}
 
 edges-in-at : (l : ℕ) (ws : List ℕ) (e : ℕ) → e < l → getD (edgesIn l ws) e noEdge ≡ edgeAt ws (3 * e)
 edges-in-at zero ws e h = absurd (omega arith)

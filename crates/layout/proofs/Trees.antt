@@ -1,14 +1,14 @@
 -- The tree that words hold, word by word.
 -- Assumes nothing.
-use mathlib.Core.Path.{_≡_, refl, sym, ap, _∙_}
+use mathlib.Core.Path.{_≡_, refl, ap, _∙_}
 use mathlib.Core.List.{List}
 use Prim.Native.Nat.{ℕ, zero, suc, _+_, _*_, _<_, _≤_}
 use native.Mathlib.Omega.{arith}
-use lib.ListN.{length, getD, take, drop, length-drop}
-use lib.Seq.{length-take-le, getD-take, getD-drop}
+use lib.ListN.{length, getD, drop}
 use Rattle.model.specs.Tree.{Node, node, closedAt}
 use Rattle.layout.specs.Layout.{nodesAt, nodeAt, closedAt as closedWordsAt}
 use Rattle.layout.specs.Read.{nodesIn, treeIn}
+use Rattle.layout.proofs.Places.{word-behind, part-at, part-length}
 
 -- the node whose words stand from `at` on
 abbrev pub nodeIn : List ℕ → ℕ → Node
@@ -20,14 +20,11 @@ nodes-in-length (suc n) ws = ap suc (nodes-in-length n (drop 4 ws))
 
 node-drop : (n : ℕ) (ws : List ℕ) (j k : ℕ) → n + j ≡ k → nodeIn (drop n ws) j ≡ nodeIn ws k
 node-drop n ws j k e = λ i. record {
-  vertex = word j k e i;
-  cost = word (j + 1) (k + 1) (omega arith) i;
-  parent = word (j + 2) (k + 2) (omega arith) i;
-  edge = word (j + 3) (k + 3) (omega arith) i;
+  vertex = word-behind n ws j k e i;
+  cost = word-behind n ws (j + 1) (k + 1) (omega arith) i;
+  parent = word-behind n ws (j + 2) (k + 2) (omega arith) i;
+  edge = word-behind n ws (j + 3) (k + 3) (omega arith) i;
 }
-  where
-    word : (a b : ℕ) → n + a ≡ b → getD (drop n ws) a 0 ≡ getD ws b 0
-    word a b e = getD-drop n ws a 0 ∙ ap (λ (c : ℕ). getD ws c 0) e
 
 nodes-in-at : (n : ℕ) (ws : List ℕ) (k : ℕ) → k < n → node (nodesIn n ws) k ≡ nodeIn ws (4 * k)
 nodes-in-at zero ws k h = absurd (omega arith)
@@ -49,8 +46,8 @@ module _ (m l : ℕ) (t : List ℕ) where
 
   pub tree-closed : (v : ℕ) → v < m → closedAt (treeIn m l t .closed) v ≡ getD t (closedWordsAt l + v) 0
   unfolding treeIn
-  tree-closed v h = getD-take m (drop (closedWordsAt l) t) v 0 h ∙ getD-drop (closedWordsAt l) t v 0
+  tree-closed v h = part-at (closedWordsAt l) m t v h
 
   pub tree-closed-length : closedWordsAt l + m ≤ length t → length (treeIn m l t .closed) ≡ m
   unfolding treeIn
-  tree-closed-length h = length-take-le m (drop (closedWordsAt l) t) (omega (arith, length-drop (closedWordsAt l) t))
+  tree-closed-length h = part-length (closedWordsAt l) m t h

@@ -1,6 +1,6 @@
 -- What the tests over pairs, lists and ranges of numbers mean, each in both directions.
 -- Assumes nothing.
-use mathlib.Core.Path.{_≡_, refl, sym}
+use mathlib.Core.Path.{_≡_, refl, sym, ap₂}
 use mathlib.Core.Logic.{_⊎_, inl, inr}
 use mathlib.Core.Bool.{Bool, true, false, _&&_, _||_, true≢false}
 use mathlib.Core.List.{List, [], _∷_, List·Memᴰ, List·Memᴰ·head, List·Memᴰ·tail, List·Memᴰ·not-nil, List·Memᴰ·cases-cons}
@@ -69,6 +69,11 @@ pub at-upto : (p : ℕ → Bool) (n : ℕ) → ((i : ℕ) → i < n → p i ≡ 
 unfolding upto
 at-upto p zero f = refl
 at-upto p (suc n) f = true-and (p n) (upto p n) (f n (omega arith)) (at-upto p n (λ i h. f i (omega arith)))
+
+pub upto-same : (p r : ℕ → Bool) (n : ℕ) → ((i : ℕ) → i < n → p i ≡ r i) → upto p n ≡ upto r n
+unfolding upto
+upto-same p r zero f = refl
+upto-same p r (suc n) f = ap₂ (λ (a b : Bool). a && b) (f n (omega arith)) (upto-same p r n (λ i h. f i (omega arith)))
 
 -- ---- over the elements of a list
 

@@ -5,7 +5,6 @@ use mathlib.Core.Bool.{Bool, true, false, not}
 use mathlib.Core.Option.{Option, none, some, Option·none-ne-some}
 use mathlib.Core.List.{List}
 use Prim.Native.Nat.{ℕ, _+_, _-_, _*_, _<_, _≤_}
-use native.Mathlib.Omega.{arith}
 use borrow.Author.Tests.{ltb-false, leb-true, not-false}
 use lib.Dec.{leb, ltb}
 use lib.ListN.{length}
@@ -13,7 +12,7 @@ use Rattle.model.specs.declared.Solution.{Solution}
 use Rattle.model.specs.declared.Solution.the-variants.{At}
 use Rattle.model.specs.declared.Search.{Search}
 use Rattle.model.specs.Lists.{mem, allBelow}
-use Rattle.model.specs.Answers.{Reply, answered, refused}
+use Rattle.model.specs.Answers.{answered, refused}
 use Rattle.model.specs.Graph.{Direction, forward, backward, vertexCount}
 use Rattle.model.specs.Tree.{Tree}
 use Rattle.model.specs.Path.{movesOf, words}

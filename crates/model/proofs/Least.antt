@@ -12,7 +12,7 @@ use borrow.Author.Tests.{eqb-true, eqb-false}
 use lib.Dec.{eqb}
 use lib.ListN.{length}
 use Rattle.model.specs.Graph.{Domain, Accepted, Usable, Leads, total, from, to, cost, vertexCount, initialCost}
-use Rattle.model.specs.Tree.{Tree, node, closedAt}
+use Rattle.model.specs.Tree.{Tree, Node, node, closedAt}
 use Rattle.model.specs.Sound.{Sound, Hangs, Reached, shut, waits}
 use Rattle.model.specs.Path.{snocIf, pathIn, path}
 use Rattle.model.proofs.Paths.{leads-snoc, total-snoc}
@@ -53,12 +53,17 @@ module _ (d : Domain) (t : Tree) (ok : Sound d t) where
       go (inr h) zero e = waits 0 h (ok .root-vertex) (omega (arith, ok .root-cost))
       go h (suc i) e = shut i e (rw (root-closes i e) (omega (arith, ok .root-cost)))
 
+-- a root of a vertex, and all other nodes hang
+pub hung-inside : (d : Domain) → Accepted (d .graph) → (ns : List Node) (cl : List ℕ) → (node ns 0) .vertex < vertexCount (d .graph)
+    → ((i : ℕ) → i ≢ 0 → i < length ns → Hangs d ns cl i) → (i : ℕ) → i < length ns → (node ns i) .vertex < vertexCount (d .graph)
+hung-inside d acc ns cl root hangs i h = elim (ℕ-discrete i 0) [
+  | yes z ↦ rw z root
+  | no z ↦ let g : Hangs d ns cl i = hangs i z h in rw (g .enters) at (acc .enters ((node ns i) .edge) (g .real))
+]
+
 module _ (d : Domain) (acc : Accepted (d .graph)) (t : Tree) (ok : Sound d t) where
   pub node-inside : (i : ℕ) → i < length (t .nodes) → (node (t .nodes) i) .vertex < vertexCount (d .graph)
-  node-inside i h = elim (ℕ-discrete i 0) [
-    | yes z ↦ rw (z, ok .root-vertex) (ok .inside)
-    | no z ↦ let g : Hangs d (t .nodes) (t .closed) i = ok .hangs i z h in rw (g .enters) at (acc .enters ((node (t .nodes) i) .edge) (g .real))
-  ]
+  node-inside = hung-inside d acc (t .nodes) (t .closed) (rw (ok .root-vertex) (ok .inside)) (ok .hangs)
 
 -- ---- a closed vertex costs at most the total of every path to it
 

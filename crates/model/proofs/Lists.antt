@@ -2,14 +2,14 @@
 -- Assumes nothing.
 use mathlib.Core.Path.{_≡_, refl, sym, ap, _∙_}
 use mathlib.Core.Logic.{_⊎_, inl, inr}
-use mathlib.Core.Bool.{Bool, true, false, not, _&&_, _||_, true≢false}
-use mathlib.Core.List.{List, [], _∷_, _++_, List·Memᴰ, List·Memᴰ·head, List·Memᴰ·tail, List·Memᴰ·cases-cons, List·Memᴰ·not-nil, List·Memᴰ·append-cases, Memᴰ·append-left, Memᴰ·append-right, Memᴰ·cast}
+use mathlib.Core.Bool.{Bool, true, false, not, _&&_, _||_, true≢false, or-false, or-assoc}
+use mathlib.Core.List.{List, [], _∷_, _++_, map, List·Memᴰ, List·Memᴰ·head, List·Memᴰ·tail, List·Memᴰ·cases-cons, List·Memᴰ·not-nil, List·Memᴰ·append-cases, Memᴰ·append-left, Memᴰ·append-right, Memᴰ·cast}
 use Prim.Native.Nat.{ℕ, zero, suc, _+_, _<_, _≤_}
 use native.Mathlib.Nat.{eq-or-lt-of-le}
 use native.Mathlib.Omega.{arith}
 use borrow.Author.Tests.{eqb-true, eqb-false, ltb-true, ltb-false, not-true, not-false, eq-eqb}
 use lib.Dec.{eqb, ltb}
-use lib.ListN.{length}
+use lib.ListN.{length, getD}
 use Rattle.model.specs.Lists.{upFrom, numbers, keep, those, joined, mem, Ascends}
 use Rattle.model.specs.Tree.{Node, evaluation, precedes, pick, leastOf, without}
 
@@ -203,6 +203,22 @@ numbers-mem n i m = omega (arith, up-mem n 0 i m)
 pub numbers-has : (n i : ℕ) → i < n → List·Memᴰ i (numbers n)
 numbers-has n i h = Memᴰ·cast {b = 0 + i} (omega arith) (up-has n 0 i h)
 
+up-snoc : (k n : ℕ) → upFrom (suc k) n ≡ upFrom k n ++ ((n + k) ∷ [])
+up-snoc zero n = ap (λ (m : ℕ). m ∷ []) (omega arith)
+up-snoc (suc k) n =
+    let e : suc n + k ≡ n + suc k = omega arith in
+    ap (λ (l : List ℕ). n ∷ l) (up-snoc k (suc n) ∙ ap (λ (m : ℕ). upFrom k (suc n) ++ (m ∷ [])) e)
+
+pub numbers-snoc : (n : ℕ) → numbers (suc n) ≡ numbers n ++ (n ∷ [])
+numbers-snoc n =
+    let e : 0 + n ≡ n = omega arith in
+    up-snoc n 0 ∙ ap (λ (m : ℕ). upFrom n 0 ++ (m ∷ [])) e
+
+pub map-up-at : {A : Type 0} (f : ℕ → A) (z : A) (k n j : ℕ) → j < k → getD (map f (upFrom k n)) j z ≡ f (n + j)
+map-up-at f z zero n j h = absurd (omega arith)
+map-up-at f z (suc k) n zero h = ap f (omega arith)
+map-up-at f z (suc k) n (suc j) h = map-up-at f z k (suc n) j (omega arith) ∙ ap f (omega arith)
+
 pub append-ascends : (b k : ℕ) (q r : List ℕ) → b ≤ k → Ascends b q → ((i : ℕ) → List·Memᴰ i q → i < k) → Ascends k r → Ascends b (q ++ r)
 append-ascends b k [] r h a f g = ascends-from b k r h g
 append-ascends b k (x ∷ xs) r h a f g =
@@ -230,6 +246,39 @@ those-has p (x ∷ xs) l k f = go (λ r. those-has p xs l r f) (p x) refl (List�
     go ih true e (inr r) = List·Memᴰ·tail (ih r)
     go ih false e (inl h) = absurd (true≢false (sym f ∙ ap p h ∙ e))
     go ih false e (inr r) = ih r
+
+keep-append : (b : Bool) (x : ℕ) (xs ys : List ℕ) → keep b x (xs ++ ys) ≡ keep b x xs ++ ys
+keep-append true x xs ys = refl
+keep-append false x xs ys = refl
+
+pub those-append : (p : ℕ → Bool) (xs ys : List ℕ) → those p (xs ++ ys) ≡ those p xs ++ those p ys
+unfolding those
+those-append p [] ys = refl
+those-append p (x ∷ xs) ys = ap (keep (p x) x) (those-append p xs ys) ∙ keep-append (p x) x (those p xs) (those p ys)
+
+pub those-snoc : (p : ℕ → Bool) (xs : List ℕ) (x : ℕ) → those p (xs ++ (x ∷ [])) ≡ those p xs ++ keep (p x) x []
+unfolding those
+those-snoc p xs x = those-append p xs (x ∷ [])
+
+-- tests that agree on the list
+pub those-same : (p r : ℕ → Bool) (xs : List ℕ) → ((x : ℕ) → List·Memᴰ x xs → p x ≡ r x) → those p xs ≡ those r xs
+unfolding those
+those-same p r [] f = refl
+those-same p r (x ∷ xs) f = rw (f x (List·Memᴰ·head refl), those-same p r xs (λ y m. f y (List·Memᴰ·tail m)))
+
+pub those-none : (p : ℕ → Bool) (xs : List ℕ) → ((x : ℕ) → List·Memᴰ x xs → p x ≡ false) → those p xs ≡ []
+unfolding those
+those-none p [] f = refl
+those-none p (x ∷ xs) f = rw (f x (List·Memᴰ·head refl)) (those-none p xs (λ y m. f y (List·Memᴰ·tail m)))
+
+pub those-ascends : (p : ℕ → Bool) (b : ℕ) (xs : List ℕ) → Ascends b xs → Ascends b (those p xs)
+unfolding those
+those-ascends p b [] a = tt
+those-ascends p b (x ∷ xs) a = go (those-ascends p (suc x) xs (a .1)) (p x)
+  where
+    go : Ascends (suc x) (those p xs) → (t : Bool) → Ascends b (keep t x (those p xs))
+    go r true = (a .0, r)
+    go r false = ascends-from b (suc x) (those p xs) (omega arith) r
 
 pub those-length : (p : ℕ → Bool) (xs : List ℕ) → length (those p xs) ≤ length xs
 unfolding those
@@ -312,6 +361,11 @@ mem-cases x y ys e = go (eqb x y) refl e
     go : (b : Bool) → eqb x y ≡ b → (b || mem x ys) ≡ true → (x ≡ y) ⊎ (mem x ys ≡ true)
     go true p q = inl (eqb-true x y p)
     go false p q = inr q
+
+pub mem-snoc : (x y : ℕ) (l : List ℕ) → mem x (l ++ (y ∷ [])) ≡ (mem x l || eqb x y)
+unfolding mem
+mem-snoc x y [] = or-false (eqb x y)
+mem-snoc x y (z ∷ l) = ap (λ (b : Bool). eqb x z || b) (mem-snoc x y l) ∙ sym (or-assoc (eqb x z) (mem x l) (eqb x y))
 
 pub mem-listed : (x : ℕ) (l : List ℕ) → mem x l ≡ true → List·Memᴰ x l
 mem-listed x [] e = absurd (true≢false (sym e ∙ mem-nil x))

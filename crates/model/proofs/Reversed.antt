@@ -1,7 +1,7 @@
 -- The reversed graph: its edges and limits, and that a path on it is a path on the graph, read from its end, with the same total.
 -- Assumes nothing.
 use mathlib.Core.Path.{_≡_, refl, sym, ap, _∙_, subst}
-use mathlib.Core.List.{List, [], _∷_, _++_}
+use mathlib.Core.List.{List, [], _∷_, _++_, map}
 use Prim.Native.Nat.{ℕ, _+_}
 use native.Mathlib.Omega.{arith}
 use lib.ListN.{length, getD, length-map, length-append, List·getD-map}
@@ -107,6 +107,16 @@ pub domain-direction : (dir : Direction) (g : Graph) → (domain dir g) .directi
 unfolding domain
 domain-direction forward g = refl
 domain-direction backward g = refl
+
+swapped-twice : (es : List Edge) → map swap (map swap es) ≡ es
+swapped-twice [] = refl
+swapped-twice (e ∷ es) = ap (λ (xs : List Edge). e ∷ xs) (swapped-twice es)
+
+-- a graph held in a backward cache was turned round, and turned round again it is the text's
+pub domain-twice : (dir : Direction) (g : Graph) → domain dir (domain dir g .graph) ≡ record { direction = dir; graph = g }
+unfolding domain
+domain-twice forward g = refl
+domain-twice backward g = λ i. record { direction = backward; graph = record { initial = g .initial; edges = swapped-twice (g .edges) i } }
 
 pub domain-forward : (g : Graph) → (domain forward g) .graph ≡ g
 unfolding domain

@@ -28,7 +28,7 @@ module _ (d : Domain) (t : Tree) (ok : Sound d t) where
   pub queue-le : length (t .waiting) ≤ length (t .nodes)
   queue-le = omega (arith, ascends-length 0 (length (t .nodes)) (t .waiting) (ok .ascends) (ok .queue) (omega arith))
 
-initial-bound : (d : Domain) → Accepted (d .graph) → (v : ℕ) → initialCost d v ≢ absent → initialCost d v ≤ 999999
+pub initial-bound : (d : Domain) → Accepted (d .graph) → (v : ℕ) → initialCost d v ≢ absent → initialCost d v ≤ 999999
 unfolding initialCost
 initial-bound d acc v h = go (d .direction) h
   where
@@ -36,24 +36,27 @@ initial-bound d acc v h = go (d .direction) h
     go forward h = elim (acc .starts v) [ inl e ↦ absurd (h e) | inr k ↦ k ]
     go backward h = omega arith
 
-module _ (d : Domain) (acc : Accepted (d .graph)) (t : Tree) (ok : Sound d t) where
+-- a root that costs little, and all other nodes hang
+module _ (d : Domain) (acc : Accepted (d .graph)) (ns : List Node) (cl : List ℕ) (root : (node ns 0) .cost ≤ 999999)
+    (hangs : (i : ℕ) → i ≢ 0 → i < length ns → Hangs d ns cl i) where
   -- b bounds the node's number
-  cost-in : (b n : ℕ) → n ≤ b → n < length (t .nodes) → (node (t .nodes) n) .cost ≤ 999999 * (1 + n)
-  cost-in zero n le h = root n (omega arith)
-    where
-      root : (n : ℕ) → n ≡ 0 → (node (t .nodes) n) .cost ≤ 999999 * (1 + n)
-      root n e = rw e (omega (arith, ok .root-cost, initial-bound d acc (t .start) (ok .allowed)))
+  cost-in : (b n : ℕ) → n ≤ b → n < length ns → (node ns n) .cost ≤ 999999 * (1 + n)
+  cost-in zero n le h = let e : n ≡ 0 = omega arith in rw e (omega (arith, root))
   cost-in (suc b) n le h = go (cost-in b) (ℕ-discrete n 0)
     where
-      go : ((p : ℕ) → p ≤ b → p < length (t .nodes) → (node (t .nodes) p) .cost ≤ 999999 * (1 + p)) → Dec (n ≡ 0) → (node (t .nodes) n) .cost ≤ 999999 * (1 + n)
-      go ih (yes e) = rw e (ih 0 (omega arith) (ok .some-node))
+      go : ((p : ℕ) → p ≤ b → p < length ns → (node ns p) .cost ≤ 999999 * (1 + p)) → Dec (n ≡ 0) → (node ns n) .cost ≤ 999999 * (1 + n)
+      go ih (yes e) = rw e (omega (arith, root))
       go ih (no z) =
-          let g : Hangs d (t .nodes) (t .closed) n = ok .hangs n z h in
-          let p : ℕ = (node (t .nodes) n) .parent in
-          omega (arith, g .lower, g .costs, ih p (omega (arith, g .lower)) (omega (arith, g .lower)), acc .costs ((node (t .nodes) n) .edge) (g .real))
+          let g : Hangs d ns cl n = hangs n z h in
+          omega (arith, g .lower, g .costs, ih ((node ns n) .parent) (omega (arith, g .lower)) (omega (arith, g .lower)), acc .costs ((node ns n) .edge) (g .real))
 
+  pub hung-cost : (n : ℕ) → n < length ns → (node ns n) .cost ≤ 999999 * (1 + n)
+  hung-cost n h = cost-in n n (omega arith) h
+
+module _ (d : Domain) (acc : Accepted (d .graph)) (t : Tree) (ok : Sound d t) where
   pub cost-bound : (n : ℕ) → n < length (t .nodes) → (node (t .nodes) n) .cost ≤ 999999 * (1 + n)
-  cost-bound n h = cost-in n n (omega arith) h
+  cost-bound =
+      hung-cost d acc (t .nodes) (t .closed) (omega (arith, ok .root-cost, initial-bound d acc (t .start) (ok .allowed))) (ok .hangs)
 
   -- so a cost and a node's number are words, and neither is the word `absent`
   pub cost-fits : (n : ℕ) → n < length (t .nodes) → (node (t .nodes) n) .cost < 4294967295

@@ -74,6 +74,14 @@ hangs-at d ns cl i e =
       closer = eqb-true _ _ (r .1 .1 .1 .1 .1 .0);
     }
 
+-- every node but the root
+pub all-hang : (d : Domain) (ns : List Node) (cl : List ℕ) (n : ℕ) → upto (λ i. eqb i 0 || hangsb d ns cl i) n ≡ true
+    → (i : ℕ) → i ≢ 0 → i < n → Hangs d ns cl i
+all-hang d ns cl n e i z h = elim (or-cases (eqb i 0) (hangsb d ns cl i) (upto-at _ n e i h)) [
+  | inl y ↦ absurd (z (eqb-true i 0 y))
+  | inr y ↦ hangs-at d ns cl i y
+]
+
 at-hangs : (d : Domain) (ns : List Node) (cl : List ℕ) (i : ℕ) → Hangs d ns cl i → hangsb d ns cl i ≡ true
 unfolding hangsb
 at-hangs d ns cl i h =
@@ -108,7 +116,7 @@ module _ (d : Domain) (t : Tree) where
         root-cost = eqb-true _ _ (r₃ .1 .0);
         root-parent = eqb-true _ _ (r₃ .1 .1 .0);
         root-edge = eqb-true _ _ (r₆ .0);
-        hangs = λ i z h. elim (or-cases (eqb i 0) (hangsb d ns cl i) (upto-at _ (length ns) (r₆ .1 .0) i h)) [ inl y ↦ absurd (z (eqb-true i 0 y)) | inr y ↦ hangs-at d ns cl i y ];
+        hangs = all-hang d ns cl (length ns) (r₆ .1 .0);
         queue = λ i m. ltb-true _ _ (all-in-at _ q (r₆ .1 .1 .0) i m);
         ascends = ascends-at 0 q (r₉ .0);
         sized = eqb-true _ _ (r₉ .1 .0);

@@ -8,29 +8,29 @@ use native.Mathlib.Numerals.{add-one}
 use native.Mathlib.Omega.{arith}
 use borrow.Author.Tests.{not-true, not-false}
 use borrow.Rule.Slice.PartMut.{midOf}
-use lib.ListN.{length, getD, set, take, replicate}
+use lib.ListN.{length, getD, set, replicate}
 use Rattle.model.specs.Lists.{allb, upto, mem, numbers}
 use Rattle.model.specs.Graph.{Domain, absent, vertexCount}
 use Rattle.model.specs.Tree.{Tree}
 use Rattle.model.specs.Sound.{starts, distinctb}
-use Rattle.model.proofs.Bools.{and-true, true-and, all-true, true-given, upto-at}
+use Rattle.model.proofs.Bools.{and-true, true-and, all-true, upto-at}
+use Rattle.model.proofs.Lists.{numbers-snoc}
 use Rattle.model.proofs.Tests.{distinct-at, at-distinct}
 use Rattle.layout.specs.Layout.{Sized, treeWords, slotAt}
 use Rattle.layout.specs.Read.{directionOf, graphIn, domainIn, domainOf, treeIn, treesIn, readCache}
 use Rattle.layout.specs.Sound.{headerTests, initialb, edgeTests, indexb, graphTests, zerosb, treeWordsb, slotWords, treesTests, soundWordsb}
+use Rattle.layout.proofs.Places.{part-at}
 use Rattle.layout.proofs.Sizes.{slots-fit}
 use Rattle.layout.proofs.Edges.{vertex-count-in, edge-count-in}
 use Rattle.graph.specs.Write.{WritesIndex}
-use Rattle.graph.proofs.Buckets.{numbers-snoc}
 use Rattle.graph.proofs.Parts.{mid-at}
-use Rattle.tree.proofs.Parts.{part-at}
 use Rattle.sound.specs.Check.{HasGraph, CanCheck, CanCheckTrees, Marked, TreesIn, treesb}
-use Rattle.sound.proofs.Tests.{upto-passes, all-fails}
-use Rattle.sound.proofs.Header.{last-test, upto-less}
+use Rattle.sound.proofs.Tests.{upto-passes, upto-less, all-fails, read-last}
+use Rattle.sound.proofs.Header.{headed}
 use Rattle.sound.proofs.Marks.{distinct-snoc, marked-none, marked-more}
 use Rattle.sound.proofs.Held.{held-at, initials-as, edges-from, edges-to}
 use Rattle.sound.proofs.Slots.{slot-order, slot-before, slot-length, start-in-at, starts-in-length}
-use Rattle.sound.proofs.Facts.{headed, tree-words-at}
+use Rattle.sound.proofs.Facts.{tree-words-at}
 
 -- a test that cannot pass
 fails : (b : Bool) → (b ≡ true → ⊥) → false ≡ b
@@ -93,8 +93,7 @@ module _ (ws : List ℕ) (header : allb (headerTests ws) ≡ true) where
         → r ≡ indexb (domainIn (directionOf (getD ws 0 0)) m l ws) ws → r ≡ allb (graphTests d ws)
     graph-last {a} {b} ea na eb nb er =
         er ∙ index
-        ∙ last-test (take 2 (graphTests d ws)) (getD (graphTests d ws) 2 true)
-        (true-given (take 2 (graphTests d ws)) (sym (ea ∙ initials) ∙ not-false a na) (sym (eb ∙ edges) ∙ not-false b nb))
+        ∙ read-last {cs = graphTests d ws} refl 2 refl (sym (ea ∙ initials) ∙ not-false a na) (sym (eb ∙ edges) ∙ not-false b nb)
 
 -- ---- the trees in use, one after the other
 
@@ -252,7 +251,7 @@ module _ {ws : List ℕ} (can : CanCheckTrees ws) where
               ez
               ∙ (λ i. zerosb (midOf (ea i) (ee i - ea i) ws))
               ∙ (λ i. zerosb (midOf (slotAt (em i) (el i) (eu i)) (slotAt (em i) (el i) (es i) - slotAt (em i) (el i) (eu i)) ws))
-              ∙ last-test (take 2 (treesTests ws)) (getD (treesTests ws) 2 true) (true-given (take 2 (treesTests ws)) (t .0) (t .1))
+              ∙ read-last {cs = treesTests ws} refl 2 refl (t .0) (t .1)
 
       pub spare-small : {at : ℕ} → at ≡ slotAt m l u → at ≤ 800000
       spare-small ea = omega (arith, slots-fit trees-sized (trees-few eu), trees-sized .vertices, trees-sized .edges)

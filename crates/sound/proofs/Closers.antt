@@ -13,20 +13,18 @@ use Rattle.model.specs.Lists.{allIn}
 use Rattle.model.specs.Tree.{Node, node, closedAt, evaluation}
 use Rattle.layout.specs.Layout.{nodeAt, queueAt, closedAt as closedWordsAt}
 use Rattle.layout.specs.Read.{treeIn}
-use Rattle.layout.proofs.Trees.{tree-nodes, tree-node, tree-closed}
+use Rattle.layout.proofs.Trees.{tree-nodes, tree-node}
 use Rattle.queue.specs.Queue.{evaluationIn}
 use Rattle.tree.specs.Tree.{treeOf, HasVertex}
+use Rattle.tree.proofs.Closed.{closed-word, node-cost}
 use Rattle.sound.specs.Check.{Waits, closerb, begunb, RootMarked}
-use Rattle.sound.proofs.Waiting.{mem-waiting, cost-is, all-below-used, queued-node, none-waits, waiting-first}
+use Rattle.sound.proofs.Waiting.{mem-waiting, all-below-used, queued-node, none-waits, waiting-first}
 
 -- ---- the closed word of vertex v, where closed words stand from c on
 
-word-is : (l : ℕ) (t : List ℕ) (v : ℕ) → HasVertex l t v → closedAt (treeOf l t .closed) v ≡ getD t (closedWordsAt l + v) 0
-word-is l t v h = tree-closed _ l t v (omega arith)
-
 -- the vertex is open
 pub closer-open : (l : ℕ) (t : List ℕ) (v c : ℕ) → c ≡ closedWordsAt l → HasVertex l t v → getD t (c + v) 0 ≡ 0 → true ≡ closerb (treeOf l t) v
-closer-open l t v c at h e = rw (word-is l t v h, ← at, e)
+closer-open l t v c at h e = rw (closed-word l t v c h at, e)
 
 module _ (l : ℕ) (t : List ℕ) (v c : ℕ) (at : c ≡ closedWordsAt l) (h : HasVertex l t v) (some : getD t (c + v) 0 ≡ 0 → ⊥) where
   -- the number named
@@ -37,7 +35,7 @@ module _ (l : ℕ) (t : List ℕ) (v c : ℕ) (at : c ≡ closedWordsAt l) (h : 
       ≡ ((ltb i (length (treeOf l t .nodes)) && eqb ((node (treeOf l t .nodes) i) .vertex) v)
       && allIn (λ j. leb (evaluation (treeOf l t .nodes) i) (evaluation (treeOf l t .nodes) j)) (treeOf l t .waiting))
   names =
-      let e : closedAt (treeOf l t .closed) v ≡ suc i = word-is l t v h ∙ ap (λ (x : ℕ). getD t (x + v) 0) (sym at) ∙ omega arith in
+      let e : closedAt (treeOf l t .closed) v ≡ suc i = closed-word l t v c h at ∙ omega arith in
       rw e
 
   -- it is no node
@@ -66,7 +64,7 @@ module _ (l : ℕ) (t : List ℕ) (v c : ℕ) (at : c ≡ closedWordsAt l) (h : 
     pub closer-first : Waits l t → x ≡ v → (getD t 2 0 ≡ 0 → ⊥) → (q a b : ℕ) → q ≡ queueAt l → a ≡ evaluationIn t i → b ≡ evaluationIn t (getD t q 0)
         → leb a b ≡ closerb (treeOf l t) v
     closer-first w ev more q a b eq ea eb =
-        let cost : evaluation (treeOf l t .nodes) i ≡ a = cost-is _ l t i n ∙ sym ea in
+        let cost : evaluation (treeOf l t .nodes) i ≡ a = node-cost _ l t i n ∙ sym ea in
         let first : evaluationIn t (getD t (queueAt l) 0) ≡ b = rw (← eq) (sym eb) in
         sym (named ev ∙ waiting-first _ l t w _ (omega arith) ∙ ap₂ leb cost first)
 
@@ -81,7 +79,7 @@ first-fits l t q w more eq =
 module _ (l : ℕ) (t : List ℕ) (marks : List Bool) (c v : ℕ) (r : RootMarked l t marks) (at : c ≡ closedWordsAt l) (ev : v ≡ getD t 0 0) where
   start-is : closedAt (treeOf l t .closed) (treeOf l t .start) ≡ getD t (c + v) 0
   unfolding treeIn
-  start-is = word-is l t (getD t 0 0) (r .start) ∙ rw (← at, ← ev)
+  start-is = closed-word l t (getD t 0 0) c (r .start) at ∙ rw (← ev)
 
   -- its vertex is closed
   pub begun-closed : (getD t (c + v) 0 ≡ 0 → ⊥) → true ≡ begunb (treeOf l t)

@@ -2,29 +2,30 @@
 -- Assumes nothing.
 use mathlib.Core.Path.{_≡_, refl, sym, ap, _∙_}
 use mathlib.Core.Logic.{_⊎_, inl, inr, _≢_}
-use mathlib.Core.Bool.{Bool, true, false, not, _&&_}
+use mathlib.Core.Bool.{Bool, true, not, _&&_}
 use mathlib.Core.List.{List, []}
 use Prim.Native.Nat.{ℕ, zero, suc, _+_, _-_, _<_, _≤_}
 use native.Mathlib.Omega.{arith}
-use native.Mathlib.Nat.{add-zero, zero-add}
+use native.Mathlib.Nat.{add-zero}
 use native.Mathlib.Numerals.{add-one}
 use lib.Dec.{eqb, leb, ltb}
-use lib.ListN.{length, getD}
+use lib.ListN.{length, getD, length-append}
 use borrow.Author.Tests.{ltb-true, le-leb, lt-leb, eq-eqb, ne-eqb}
-use Rattle.model.specs.Lists.{upFrom, numbers, keep, those, allIn, upto}
+use Rattle.model.specs.Lists.{numbers, those, allIn, upto}
 use Rattle.model.specs.Graph.{from, to, cost, vertexCount, edgeCount, edgesInUse}
 use Rattle.model.specs.Tree.{Tree, node, closedAt, evaluation}
 use Rattle.model.specs.Sound.{closedEdges, closedb, reachedb}
 use Rattle.model.proofs.Bools.{and-true, all-true, upto-at, at-upto, all-in-at, at-all-in}
-use Rattle.model.proofs.Lists.{up-length, numbers-mem, numbers-has, those-length}
+use Rattle.model.proofs.Lists.{up-length, numbers-mem, numbers-has, numbers-snoc, those-length, those-snoc}
 use Rattle.layout.specs.Layout.{nodeAt, edgeAt, closedAt as closedWordsAt}
 use Rattle.layout.specs.Read.{treeIn, domainOf}
 use Rattle.layout.specs.Held.{Held}
 use Rattle.layout.proofs.Edges.{from-word, to-word, cost-word, vertex-count-in, edge-count-in}
 use Rattle.layout.proofs.Trees.{tree-nodes, tree-closed}
-use Rattle.queue.specs.Queue.{evaluationIn, oneIf}
+use Rattle.queue.specs.Queue.{evaluationIn}
+use Rattle.tree.proofs.Closed.{node-cost}
 use Rattle.sound.specs.Check.{queueTests, closerb, onwardb, LeadsOn}
-use Rattle.sound.proofs.Waiting.{same-tests, cost-is}
+use Rattle.sound.proofs.Tests.{same-tests}
 use Rattle.sound.proofs.LeastCosts.{waits-within}
 
 -- ---- an edge's words
@@ -52,30 +53,13 @@ module _ {m l : ℕ} {ws : List ℕ} (h : Held m l ws) {e : ℕ} (k : e < l) whe
       (same, omega (arith, h .accepted .costs e usable))
 
 -- the closed word of vertex v, as the code reads it
-closed-word : (m l : ℕ) {a x v : ℕ} (t : List ℕ) → a ≡ closedWordsAt l → x ≡ v → x < m → getD t (a + x) 0 ≡ closedAt (treeIn m l t .closed) v
+pub closed-word : (m l : ℕ) {a x v : ℕ} (t : List ℕ) → a ≡ closedWordsAt l → x ≡ v → x < m → getD t (a + x) 0 ≡ closedAt (treeIn m l t .closed) v
 closed-word m l t p q h = rw (p, ← q) (sym (tree-closed m l t _ h))
 
 -- ---- how many
 
 abbrev leavesClosed : ℕ → ℕ → List ℕ → List ℕ → ℕ → Bool
 leavesClosed m l ws t e = not (eqb (closedAt (treeIn m l t .closed) (from (domainOf m l ws .graph) e)) 0)
-
-keep-length : (b : Bool) (x : ℕ) (xs : List ℕ) → length (keep b x xs) ≡ oneIf b + length xs
-keep-length true x xs = omega arith
-keep-length false x xs = omega arith
-
-those-last : (p : ℕ → Bool) (k n : ℕ) → length (those p (upFrom (suc k) n)) ≡ length (those p (upFrom k n)) + oneIf (p (n + k))
-unfolding those
-those-last p zero n = omega (arith, keep-length (p n) n [], ap (λ (i : ℕ). oneIf (p i)) (add-zero n))
-those-last p (suc k) n =
-    let z : suc n + k ≡ n + suc k = omega arith in
-    omega (
-      arith,
-      keep-length (p n) n (those p (upFrom (suc k) (suc n))),
-      keep-length (p n) n (those p (upFrom k (suc n))),
-      those-last p k (suc n),
-      ap (λ (i : ℕ). oneIf (p i)) z,
-    )
 
 -- c of the first n edges leave closed vertices
 pub record CountTo (m l : ℕ) (ws t : List ℕ) (n c : ℕ) : Type 0 where
@@ -108,7 +92,7 @@ module _ {m l : ℕ} {ws t : List ℕ} {n c : ℕ} (w : CountTo m l ws t n c) wh
 
       next : d ≡ length (those (leavesClosed m l ws t) (numbers (n + 1)))
       next =
-          rw (add-one, those-last (leavesClosed m l ws t) n 0, zero-add, ← word, ← w .count)
+          rw (add-one, numbers-snoc n, those-snoc (leavesClosed m l ws t) (numbers n) n, length-append, ← w .count, ← word)
           (elim e [
             | inl y ↦ rw (ne-eqb (getD t (a + f) 0) 0 (y .0)) (y .1)
             | inr y ↦ rw (eq-eqb (getD t (a + f) 0) 0 (y .0), add-zero) (y .1)
@@ -145,7 +129,7 @@ module _ {m l : ℕ} {ws t costs : List ℕ} (h : LeadsOn m l ws t costs) {a x :
     closer-words = omega (arith, closer, h .hung .counted .used, h .hung .counted .can .len)
 
     closer-cost : evaluation (u .nodes) (word - 1) ≡ evaluationIn t (word - 1)
-    closer-cost = cost-is m l t (word - 1) closer
+    closer-cost = node-cost m l t (word - 1) closer
 
     cost-few : evaluationIn t (word - 1) ≤ 2048997951
     cost-few = omega (arith, h .hung .cost (word - 1) closer, closer, h .hung .counted .used, h .hung .counted .can .held .sized .edges)

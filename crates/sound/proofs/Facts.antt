@@ -6,7 +6,7 @@ use mathlib.Core.List.{List}
 use Prim.Native.Nat.{ℕ, _+_, _-_, _<_, _≤_}
 use native.Mathlib.Decide.{ℕ-discrete}
 use native.Mathlib.Omega.{arith}
-use borrow.Author.Tests.{leb-true, le-leb}
+use borrow.Author.Tests.{le-leb}
 use lib.ListN.{length, getD}
 use Rattle.model.specs.Lists.{allb}
 use Rattle.model.specs.Graph.{Domain, Accepted}
@@ -22,33 +22,9 @@ use Rattle.tree.specs.Tree.{Formed}
 use Rattle.tree.proofs.Parts.{zeros-at, at-zeros}
 use Rattle.tree.proofs.Form.{formed-at, at-formed}
 use Rattle.sound.specs.Facts.{SoundWords}
+use Rattle.sound.proofs.Header.{headed}
 use Rattle.sound.proofs.Held.{held-at, at-held}
 use Rattle.sound.proofs.Slots.{slot-length, tree-in-at, start-in-at, trees-in-length, starts-in-length}
-
--- ---- the header
-
-pub record Headed (m l s u : ℕ) (ws : List ℕ) : Type 0 where
-  pub header : 5 ≤ length ws
-  pub direction : getD ws 0 0 ≤ 1
-  pub sized : Sized m l
-  pub some-slot : 1 ≤ s
-  pub slots : s ≤ 64
-  pub used : u ≤ s
-  pub fits : needed m l s ≤ length ws
-
-pub headed : (ws : List ℕ) → allb (headerTests ws) ≡ true → Headed (getD ws 1 0) (getD ws 2 0) (getD ws 3 0) (getD ws 4 0) ws
-headed ws e =
-    let r = all-true (headerTests ws) e in
-    let r₄ = r .1 .1 .1 .1 in
-    record {
-      header = leb-true _ _ (r .0);
-      direction = leb-true _ _ (r .1 .0);
-      sized = record { vertices = leb-true _ _ (r .1 .1 .0); edges = leb-true _ _ (r .1 .1 .1 .0) };
-      some-slot = leb-true _ _ (r₄ .0);
-      slots = leb-true _ _ (r₄ .1 .0);
-      used = leb-true _ _ (r₄ .1 .1 .0);
-      fits = leb-true _ _ (r₄ .1 .1 .1 .0);
-    }
 
 -- ---- one tree's words
 
@@ -141,7 +117,7 @@ module _ (ws : List ℕ) where
     unfolding soundWordsb
     at-sound-words =
         true-and (allb (headerTests ws)) (allb (graphTests (readCache ws .domain) ws) && allb (treesTests ws)) header-passes
-        (true-and (allb (graphTests (readCache ws .domain) ws)) (allb (treesTests ws)) (at-held ws header-passes (ok .held)) trees-pass)
+        (true-and (allb (graphTests (readCache ws .domain) ws)) (allb (treesTests ws)) (at-held ws (ok .held)) trees-pass)
 
   -- ---- the cache that sound words hold
 

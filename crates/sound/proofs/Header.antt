@@ -1,36 +1,24 @@
--- Header, initial costs, edges and unused words: what the tests answer, one after the other.
+-- Header, initial costs, edges and unused words: what the tests answer, one after the other, and what is so if those of the header pass.
 -- Assumes nothing.
 use mathlib.Core.Path.{_≡_, refl, sym, ap, ap₂, _∙_}
 use mathlib.Core.Bool.{Bool, true, false, _&&_}
-use mathlib.Core.List.{List, [], _∷_, _++_}
+use mathlib.Core.List.{List, []}
 use Prim.Native.Nat.{ℕ, suc, _+_, _-_, _<_, _≤_}
 use native.Mathlib.Omega.{arith}
 use native.Mathlib.Numerals.{add-one}
-use borrow.Author.Tests.{le-ltb, lt-ltb, le-leb, lt-leb, eq-eqb, ne-eqb}
+use borrow.Author.Tests.{leb-true, le-ltb, lt-ltb, le-leb, lt-leb, eq-eqb, ne-eqb}
 use lib.Dec.{leb}
-use lib.ListN.{length, getD, take, drop, drop-of-length-le}
+use lib.ListN.{length, getD, drop, drop-of-length-le}
 use lib.Seq.{drop-cons}
-use Rattle.model.specs.Lists.{allb, upto}
-use Rattle.model.specs.Graph.{Graph, absent, from, to, cost, vertexCount}
-use Rattle.model.proofs.Bools.{and-true, true-given, upto-at, at-upto}
-use Rattle.layout.specs.Layout.{edgeAt, nodeAt, queueAt, closedAt, needed, part}
+use Rattle.model.specs.Lists.{allb}
+use Rattle.model.specs.Graph.{Graph, absent, from, to, vertexCount}
+use Rattle.model.proofs.Bools.{all-true}
+use Rattle.layout.specs.Layout.{Sized, edgeAt, nodeAt, queueAt, closedAt, needed, part}
 use Rattle.layout.specs.Read.{graphIn}
 use Rattle.layout.specs.Sound.{headerTests, initialb, edgeTests, zerosb}
 use Rattle.layout.proofs.Edges.{vertex-count-in, from-word, to-word, cost-word}
 use Rattle.sound.specs.Check.{HasGraph, spareTests}
-use Rattle.sound.proofs.Tests.{all-fails}
-
--- ---- the last test, and the end of a loop
-
--- where all tests before it pass, the last one decides
-pub last-test : (bs : List Bool) (b : Bool) → allb bs ≡ true → b ≡ allb (bs ++ (b ∷ []))
-last-test [] true e = refl
-last-test [] false e = refl
-last-test (x ∷ xs) b e = let p = and-true x (allb xs) e in rw (p .0) (last-test xs b (p .1))
-
--- fewer numbers pass too
-pub upto-less : (p : ℕ → Bool) (n i : ℕ) → n ≤ i → upto p i ≡ true → upto p n ≡ true
-upto-less p n i h e = at-upto p n (λ j k. upto-at p i e j (omega arith))
+use Rattle.sound.proofs.Tests.{all-fails, read-last}
 
 -- ---- the header
 
@@ -61,15 +49,38 @@ module _ (ws : List ℕ) where
       → leb n (length ws) ≡ allb (headerTests ws)
   header-last {m} {l} {t} {u} {n} a b em hm el hl et some ht eu hu en =
       ap (λ (x : ℕ). leb x (length ws)) (en ∙ (λ i. needed (em i) (el i) (et i)))
-      ∙ last-test (take 7 (headerTests ws)) (leb (needed (getD ws 1 0) (getD ws 2 0) (getD ws 3 0)) (length ws))
-      (true-given (take 7 (headerTests ws))
+      ∙ read-last {cs = headerTests ws} refl 7 refl
       (le-leb 5 (length ws) (omega arith))
       (le-leb (getD ws 0 0) 1 b)
       (le-leb (getD ws 1 0) 1024 (omega arith))
       (le-leb (getD ws 2 0) 2048 (omega arith))
       (le-leb 1 (getD ws 3 0) (omega arith))
       (le-leb (getD ws 3 0) 64 (omega arith))
-      (le-leb (getD ws 4 0) (getD ws 3 0) (omega arith)))
+      (le-leb (getD ws 4 0) (getD ws 3 0) (omega arith))
+
+-- what is so if all pass: m vertices, l edges, u of s slots in use
+pub record Headed (m l s u : ℕ) (ws : List ℕ) : Type 0 where
+  pub header : 5 ≤ length ws
+  pub direction : getD ws 0 0 ≤ 1
+  pub sized : Sized m l
+  pub some-slot : 1 ≤ s
+  pub slots : s ≤ 64
+  pub used : u ≤ s
+  pub fits : needed m l s ≤ length ws
+
+pub headed : (ws : List ℕ) → allb (headerTests ws) ≡ true → Headed (getD ws 1 0) (getD ws 2 0) (getD ws 3 0) (getD ws 4 0) ws
+headed ws e =
+    let r = all-true (headerTests ws) e in
+    let r₄ = r .1 .1 .1 .1 in
+    record {
+      header = leb-true _ _ (r .0);
+      direction = leb-true _ _ (r .1 .0);
+      sized = record { vertices = leb-true _ _ (r .1 .1 .0); edges = leb-true _ _ (r .1 .1 .1 .0) };
+      some-slot = leb-true _ _ (r₄ .0);
+      slots = leb-true _ _ (r₄ .1 .0);
+      used = leb-true _ _ (r₄ .1 .1 .0);
+      fits = leb-true _ _ (r₄ .1 .1 .1 .0);
+    }
 
 -- ---- initial costs and edges
 
@@ -96,10 +107,9 @@ module _ {m l e : ℕ} {ws : List ℕ} (has : HasGraph m l ws) (h : e < l) where
       → leb z 999999 ≡ allb (edgeTests g e)
   edge-last ix kx iy ky iz =
       ap (λ (n : ℕ). leb n 999999) (iz ∙ sym (cost-word m l ws e h))
-      ∙ last-test (take 2 (edgeTests g e)) (leb (cost g e) 999999)
-      (true-given (take 2 (edgeTests g e))
+      ∙ read-last {cs = edgeTests g e} refl 2 refl
       (lt-ltb (from g e) (vertexCount g) (omega (arith, count, leaves)))
-      (lt-ltb (to g e) (vertexCount g) (omega (arith, count, to-word m l ws e h))))
+      (lt-ltb (to g e) (vertexCount g) (omega (arith, count, to-word m l ws e h)))
 
 -- ---- unused words are 0
 
@@ -133,5 +143,4 @@ module _ (l : ℕ) (t : List ℕ) {n q : ℕ} (nodes : n ≡ getD t 1 0) (queue 
   pub spare-last : {k c : ℕ} → k ≡ getD t 2 0 → c ≡ closedAt l → zerosb (part (nodeAt n) (q - nodeAt n) t) ≡ true
       → zerosb (part (q + k) (c - (q + k)) t) ≡ allb (spareTests l t)
   spare-last ek ec z =
-      (λ i. zerosb (part (queue i + ek i) (ec i - (queue i + ek i)) t))
-      ∙ last-test (nodesb ∷ []) (zerosb (part (queueAt l + getD t 2 0) (closedAt l - (queueAt l + getD t 2 0)) t)) (true-given (nodesb ∷ []) (sym same-nodes ∙ z))
+      (λ i. zerosb (part (queue i + ek i) (ec i - (queue i + ek i)) t)) ∙ read-last {cs = spareTests l t} refl 1 refl (sym same-nodes ∙ z)

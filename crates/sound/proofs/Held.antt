@@ -1,9 +1,9 @@
 -- The words of a cache passed the tests of header and graph exactly if they hold an accepted graph and its index, and they still do
 -- where the words before the slots stay.
 -- Assumes nothing.
-use mathlib.Core.Path.{_≡_, refl, sym, ap, ap₂, _∙_, subst}
+use mathlib.Core.Path.{_≡_, refl, sym, ap, _∙_, subst}
 use mathlib.Core.Logic.{_⊎_, inl, inr}
-use mathlib.Core.Bool.{Bool, true, _&&_}
+use mathlib.Core.Bool.{Bool, true}
 use mathlib.Core.List.{List, [], _∷_}
 use Prim.Native.Nat.{ℕ, zero, suc, _+_, _*_, _<_, _≤_}
 use native.Mathlib.Decide.{decLt}
@@ -11,20 +11,21 @@ use native.Mathlib.Omega.{arith}
 use borrow.Author.Tests.{ltb-true, leb-true, eqb-true, lt-ltb, le-leb, eq-eqb}
 use lib.Dec.{eqb, leb}
 use lib.ListN.{length, getD, drop, List·getD-eq-default}
-use lib.Seq.{getD-drop, ext-getD}
+use lib.Seq.{getD-drop}
 use Rattle.model.specs.Lists.{allb, upto}
 use Rattle.model.specs.Graph.{Graph, Domain, Accepted, absent, from, to, cost, vertexCount, edgeCount, edgeNumbers}
-use Rattle.model.proofs.Bools.{AllTrue, or-cases, true-or-left, true-or-right, all-true, true-given, upto-at, at-upto}
-use Rattle.layout.specs.Layout.{Sized, initialAt, edgesAt, placesAt, numbersAt, slotsAt, needed, part}
+use Rattle.model.proofs.Bools.{AllTrue, or-cases, true-or-left, true-or-right, all-true, true-given, upto-at, at-upto, upto-same}
+use Rattle.layout.specs.Layout.{Sized, initialAt, edgesAt, placesAt, numbersAt, slotsAt, part}
 use Rattle.layout.specs.Words.{firstPlace, firstPlaces}
 use Rattle.layout.specs.Read.{directionOf, edgesIn, graphIn, domainOf, readCache}
 use Rattle.layout.specs.Sound.{headerTests, initialb, edgeTests, indexTests, indexb, graphTests}
 use Rattle.layout.specs.Held.{Held}
-use Rattle.layout.proofs.Edges.{vertex-count-in, edge-count-in, from-word, to-word}
+use Rattle.layout.proofs.Edges.{initial-word, vertex-count-in, edge-count-in, from-word, to-word}
+use Rattle.layout.proofs.Places.{part-at, part-length}
 use Rattle.layout.proofs.Same.{same-is, alike-same}
-use Rattle.tree.proofs.Parts.{part-at, part-length}
-use Rattle.graph.proofs.Filled.{map-up-at}
-use Rattle.graph.proofs.Lengths.{first-places-length, numbers-length}
+use Rattle.tree.proofs.Same.{part-same}
+use Rattle.graph.proofs.Lengths.{first-places-length, first-place-at, numbers-length}
+use Rattle.sound.proofs.Header.{headed}
 
 -- ---- tests of an initial cost, of an edge
 
@@ -97,13 +98,7 @@ module _ (m l : ℕ) (ws : List ℕ) (fits : slotsAt m l ≤ length ws) where
   number-word p h =
       part-at (numbersAt (vertexCount g) (edgeCount g)) (edgeCount g) ws p (omega (arith, edges)) ∙ ap (λ (n : ℕ). getD ws n 0) (omega (arith, vertices, edges))
 
-  first-place : (v : ℕ) → v ≤ m → getD (firstPlaces d) v 0 ≡ firstPlace d v
-  unfolding firstPlaces
-  first-place v h =
-      let at : 0 + v ≡ v = omega arith in
-      map-up-at (firstPlace d) (vertexCount g + 1) 0 v (omega (arith, vertices)) ∙ ap (firstPlace d) at
-
-  pub graph-held : Sized m l → allb (graphTests d ws) ≡ true → Held m l ws
+  graph-held : Sized m l → allb (graphTests d ws) ≡ true → Held m l ws
   unfolding indexb
   graph-held sized e =
       let r = all-true (graphTests d ws) e in
@@ -112,7 +107,7 @@ module _ (m l : ℕ) (ws : List ℕ) (fits : slotsAt m l ≤ length ws) where
         sized = sized;
         fits = fits;
         accepted = accepted-at g (omega (arith, vertices, sized .vertices)) (omega (arith, edges, sized .edges)) (r .0) (r .1 .0);
-        place = λ v h. sym (place-word v h) ∙ ap (λ (n : List ℕ). getD n v 0) (same-is places (firstPlaces d) (x .0)) ∙ first-place v h;
+        place = λ v h. sym (place-word v h) ∙ ap (λ (n : List ℕ). getD n v 0) (same-is places (firstPlaces d) (x .0)) ∙ first-place-at d v (omega (arith, vertices));
         number = λ p h. sym (number-word p h) ∙ ap (λ (n : List ℕ). getD n p 0) (same-is numbers (edgeNumbers d) (x .1 .0));
       }
 
@@ -128,12 +123,12 @@ module _ (m l : ℕ) (ws : List ℕ) (fits : slotsAt m l ≤ length ws) where
       true-given (indexTests d ws)
       (alike-same places (firstPlaces d) (places-length ∙ sym (first-places-length d)) (λ v k.
       let b : v ≤ m = omega (arith, places-length, vertices) in
-      place-word v b ∙ h .place v b ∙ sym (first-place v b)))
+      place-word v b ∙ h .place v b ∙ sym (first-place-at d v (omega (arith, vertices)))))
       (alike-same numbers (edgeNumbers d) (numbers-count ∙ sym (numbers-length (d .direction) g (h .accepted))) (λ p k.
       let b : p < l = omega (arith, numbers-count, edges) in
       number-word p b ∙ h .number p b))
 
-pub held-graph : (m l : ℕ) (ws : List ℕ) → Held m l ws → allb (graphTests (domainOf m l ws) ws) ≡ true
+held-graph : (m l : ℕ) (ws : List ℕ) → Held m l ws → allb (graphTests (domainOf m l ws) ws) ≡ true
 held-graph m l ws h =
     true-given (graphTests (domainOf m l ws) ws) (at-initials (graphIn m l ws) (h .accepted)) (at-edges (graphIn m l ws) (h .accepted)) (index-at m l ws (h .fits) h)
 
@@ -145,14 +140,11 @@ domain-read ws = refl
 
 pub held-at : (ws : List ℕ) → allb (headerTests ws) ≡ true → allb (graphTests (readCache ws .domain) ws) ≡ true → Held (getD ws 1 0) (getD ws 2 0) ws
 held-at ws h t =
-    let r = all-true (headerTests ws) h in
-    let r₄ = r .1 .1 .1 .1 in
-    let fits : needed (getD ws 1 0) (getD ws 2 0) (getD ws 3 0) ≤ length ws = leb-true _ _ (r₄ .1 .1 .1 .0) in
-    graph-held (getD ws 1 0) (getD ws 2 0) ws (omega arith) (record { vertices = leb-true _ _ (r .1 .1 .0); edges = leb-true _ _ (r .1 .1 .1 .0) })
-    (subst (λ (d : Domain). allb (graphTests d ws) ≡ true) (domain-read ws) t)
+    let r = headed ws h in
+    graph-held (getD ws 1 0) (getD ws 2 0) ws (omega (arith, r .fits)) (r .sized) (subst (λ (d : Domain). allb (graphTests d ws) ≡ true) (domain-read ws) t)
 
-pub at-held : (ws : List ℕ) → allb (headerTests ws) ≡ true → Held (getD ws 1 0) (getD ws 2 0) ws → allb (graphTests (readCache ws .domain) ws) ≡ true
-at-held ws h held = subst (λ (d : Domain). allb (graphTests d ws) ≡ true) (sym (domain-read ws)) (held-graph (getD ws 1 0) (getD ws 2 0) ws held)
+pub at-held : (ws : List ℕ) → Held (getD ws 1 0) (getD ws 2 0) ws → allb (graphTests (readCache ws .domain) ws) ≡ true
+at-held ws held = subst (λ (d : Domain). allb (graphTests d ws) ≡ true) (sym (domain-read ws)) (held-graph (getD ws 1 0) (getD ws 2 0) ws held)
 
 -- ---- where the words before the slots stay
 
@@ -167,16 +159,8 @@ module _ (m l : ℕ) (ws ws′ : List ℕ) (len : length ws′ ≡ length ws) (s
   unfolding graphIn
   graph-same fits = λ i. record { initial = initials i; edges = edges i }
     where
-      long : length (part initialAt m ws) ≡ m
-      long = part-length initialAt m ws (omega arith)
-
-      long′ : length (part initialAt m ws′) ≡ m
-      long′ = part-length initialAt m ws′ (omega arith)
-
       initials : part initialAt m ws′ ≡ part initialAt m ws
-      initials = ext-getD 0 (part initialAt m ws′) (part initialAt m ws) (long′ ∙ sym long) (λ j k.
-          let b : j < m = omega (arith, long′) in
-          part-at initialAt m ws′ j b ∙ same (initialAt + j) (omega arith) ∙ sym (part-at initialAt m ws j b))
+      initials = part-same initialAt m ws ws′ len (λ j k. same (initialAt + j) (omega arith))
 
       edges : edgesIn l (drop (edgesAt m) ws′) ≡ edgesIn l (drop (edgesAt m) ws)
       edges = edges-same l (drop (edgesAt m) ws) (drop (edgesAt m) ws′) (λ j h.
@@ -196,23 +180,9 @@ module _ (m l : ℕ) (ws ws′ : List ℕ) (len : length ws′ ≡ length ws) (s
 
 -- ---- what is known where the tests of initial costs and edges passed
 
-upto-same : (p q : ℕ → Bool) (n : ℕ) → ((i : ℕ) → i < n → p i ≡ q i) → upto p n ≡ upto q n
-unfolding upto
-upto-same p q zero f = refl
-upto-same p q (suc n) f = ap₂ (λ (a b : Bool). a && b) (f n (omega arith)) (upto-same p q n (λ i h. f i (omega arith)))
-
--- a word that stands in the list does not depend on the default
-any-default : (xs : List ℕ) (i a b : ℕ) → i < length xs → getD xs i a ≡ getD xs i b
-any-default [] i a b h = absurd (omega arith)
-any-default (x ∷ xs) zero a b h = refl
-any-default (x ∷ xs) (suc i) a b h = any-default xs i a b (omega arith)
-
 -- the initial costs, as the words and as the graph have them
 pub initials-as : (m l : ℕ) (ws : List ℕ) → 5 + m ≤ length ws → upto (λ v. initialb (getD ws (5 + v) 0)) m ≡ upto (λ v. initialb (getD (graphIn m l ws .initial) v absent)) m
-unfolding graphIn
-initials-as m l ws h =
-    upto-same (λ v. initialb (getD ws (5 + v) 0)) (λ v. initialb (getD (graphIn m l ws .initial) v absent)) m (λ v k.
-    ap initialb (sym (part-at initialAt m ws v k) ∙ any-default (part initialAt m ws) v 0 absent (omega (arith, part-length initialAt m ws h))))
+initials-as m l ws h = upto-same _ _ m (λ v k. ap initialb (sym (initial-word m l ws v absent k h)))
 
 module _ (m l : ℕ) (ws : List ℕ) (fits : 5 + m ≤ length ws) (passed : upto (λ e. allb (edgeTests (graphIn m l ws) e)) l ≡ true) where
   abbrev held : Graph

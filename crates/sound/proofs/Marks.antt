@@ -1,7 +1,7 @@
 -- Numbers marked one by one in a table of marks, and a list with one number more at its end.
 -- Assumes nothing.
 use mathlib.Core.Path.{_≡_, refl, sym, ap, _∙_}
-use mathlib.Core.Bool.{Bool, true, false, not, _&&_, _||_, or-false, or-assoc}
+use mathlib.Core.Bool.{Bool, true, false, not, _&&_, _||_, or-false}
 use mathlib.Core.List.{List, [], _∷_, _++_}
 use Prim.Native.Nat.{ℕ, _<_}
 use native.Mathlib.Omega.{arith}
@@ -12,16 +12,11 @@ use lib.Seq.{getD-set-same, getD-set-other}
 use borrow.Author.Tests.{eq-eqb, ne-eqb}
 use Rattle.model.specs.Lists.{mem}
 use Rattle.model.specs.Sound.{distinctb}
-use Rattle.model.proofs.Lists.{mem-nil}
+use Rattle.model.proofs.Lists.{mem-nil, mem-snoc}
 use Rattle.model.proofs.Bools.{true-or-right}
 use Rattle.sound.specs.Check.{Marked}
 
 -- ---- one number more at the end
-
-mem-snoc : (x y : ℕ) (l : List ℕ) → mem x (l ++ (y ∷ [])) ≡ (mem x l || eqb x y)
-unfolding mem
-mem-snoc x y [] = or-false (eqb x y)
-mem-snoc x y (z ∷ l) = ap (λ (b : Bool). eqb x z || b) (mem-snoc x y l) ∙ sym (or-assoc (eqb x z) (mem x l) (eqb x y))
 
 eqb-swap : (x y : ℕ) → eqb x y ≡ eqb y x
 eqb-swap x y = elim (ℕ-discrete x y) [ yes e ↦ eq-eqb x y e ∙ sym (eq-eqb y x (sym e)) | no ne ↦ ne-eqb x y ne ∙ sym (ne-eqb y x (λ e. ne (sym e))) ]

@@ -1,57 +1,29 @@
 -- A tree's counts, its root and its other nodes, word by word: the tests of them, and what is so if all pass.
 -- Assumes nothing.
 use mathlib.Core.Path.{_≡_, refl, sym, ap, _∙_, subst}
-use mathlib.Core.Logic.{inl, inr, _≢_}
-use mathlib.Core.Bool.{Bool, true, false, not, _&&_, _||_}
+use mathlib.Core.Logic.{_≢_}
+use mathlib.Core.Bool.{Bool, true, false, not, _||_}
 use mathlib.Core.List.{List, [], _∷_}
-use Prim.Native.Nat.{ℕ, zero, suc, _+_, _*_, _<_, _≤_}
-use native.Mathlib.Decide.{ℕ-discrete}
+use Prim.Native.Nat.{ℕ, zero, suc, _+_, _<_, _≤_}
 use native.Mathlib.Nat.{add-zero}
 use native.Mathlib.Omega.{arith}
-use borrow.Author.Tests.{ltb-true, eqb-true, eqb-false, not-true, not-false, lt-ltb, le-ltb, le-leb, lt-leb, eq-eqb, ne-eqb}
+use borrow.Author.Tests.{ltb-true, eqb-true, eqb-false, not-true, not-false, lt-ltb, le-ltb, le-leb, lt-leb, ne-eqb}
 use lib.Dec.{eqb, leb, ltb}
-use lib.ListN.{length, getD, take, drop}
-use lib.Seq.{getD-take, getD-drop}
+use lib.ListN.{length, getD}
 use Rattle.model.specs.Lists.{allb, upto}
 use Rattle.model.specs.Graph.{Graph, Domain, Direction, forward, backward, Accepted, from, to, cost, absent, vertexCount, edgeCount, initialBy, initialCost}
 use Rattle.model.specs.Tree.{Tree, Node, node, closedAt}
-use Rattle.model.specs.Sound.{hangTests, hangsb}
-use Rattle.model.proofs.Bools.{AllTrue, Given, all-true, or-cases, true-or-right, upto-at}
-use Rattle.layout.specs.Layout.{initialAt, edgeAt, nodeAt, closedAt as closedWordsAt}
+use Rattle.model.specs.Sound.{Hangs, hangTests, hangsb}
+use Rattle.model.proofs.Bools.{AllTrue, all-true, true-or-right}
+use Rattle.model.proofs.Tests.{all-hang}
+use Rattle.model.proofs.Least.{hung-inside}
+use Rattle.model.proofs.Room.{initial-bound, hung-cost}
+use Rattle.layout.specs.Layout.{initialAt, edgeAt, nodeAt}
 use Rattle.layout.specs.Read.{graphIn, directionOf, treeIn, domainOf}
-use Rattle.layout.proofs.Edges.{vertex-count-in, edge-count-in, from-word, to-word, cost-word}
-use Rattle.layout.proofs.Trees.{nodeIn, tree-nodes, tree-node, tree-closed}
+use Rattle.layout.proofs.Edges.{initial-word, vertex-count-in, edge-count-in, from-word, to-word, cost-word}
+use Rattle.layout.proofs.Trees.{nodeIn, tree-nodes, tree-node}
 use Rattle.sound.specs.Check.{countTests, Counted, rootCost, rootTests, hangAllb, Hung}
-use Rattle.sound.proofs.Tests.{upto-fails, upto-passes, all-fails}
-
--- ---- the last of many tests, where all before it pass
-
-and-true-right : (b : Bool) → b ≡ (b && true)
-and-true-right true = refl
-and-true-right false = refl
-
-last-to : (bs : List Bool) (k : ℕ) (R : Type 0) → length bs ≡ suc k → (getD bs k true ≡ allb bs → R) → Given (take k bs) R
-last-to [] k R n f = absurd (omega arith)
-last-to (b ∷ []) zero R n f = f (and-true-right b)
-last-to (b ∷ x ∷ xs) zero R n f = absurd (omega arith)
-last-to (b ∷ bs) (suc k) R n f = λ p. last-to bs k R (omega arith) (λ q. f (q ∙ ap (λ (x : Bool). x && allb bs) (sym p)))
-
--- the tests bs, read off words as cs
-pub read-fails : {bs cs : List Bool} → bs ≡ cs → (k : ℕ) → getD cs k true ≡ false → false ≡ allb bs
-read-fails {cs = cs} e k f = sym (ap allb e ∙ all-fails cs k f)
-
-pub read-last : {bs cs : List Bool} → bs ≡ cs → (k : ℕ) → length cs ≡ suc k → Given (take k cs) (getD cs k true ≡ allb bs)
-read-last {bs} {cs} e k n = last-to cs k (getD cs k true ≡ allb bs) n (λ q. q ∙ sym (ap allb e))
-
--- the words x and y are read as a and b
-pub read-below : {a x n : ℕ} → a ≡ x → a < n → ltb x n ≡ true
-read-below {x = x} {n = n} e h = lt-ltb x n (omega arith)
-
-pub read-same : {a b x y : ℕ} → a ≡ x → b ≡ y → a ≡ b → eqb x y ≡ true
-read-same {x = x} {y = y} e f h = eq-eqb x y (sym e ∙ h ∙ f)
-
-pub read-differ : {a b x y : ℕ} → a ≡ x → b ≡ y → (a ≡ b → ⊥) → eqb x y ≡ false
-read-differ {x = x} {y = y} e f h = ne-eqb x y (λ q. h (e ∙ q ∙ sym f))
+use Rattle.sound.proofs.Tests.{upto-fails, upto-passes, all-fails, read-last}
 
 -- ---- counts
 
@@ -75,19 +47,13 @@ pub backward-cost : (n x : ℕ) → (n ≡ 0 → ⊥) → 0 ≡ rootCost (direct
 backward-cost zero x z = absurd (z refl)
 backward-cost (suc n) x z = refl
 
--- a word that is there is no default
-any-default : (ws : List ℕ) (i a b : ℕ) → i < length ws → getD ws i a ≡ getD ws i b
-any-default [] i a b h = absurd (omega arith)
-any-default (w ∷ ws) zero a b h = refl
-any-default (w ∷ ws) (suc i) a b h = any-default ws i a b (omega arith)
-
-initial-word : (m l : ℕ) (ws : List ℕ) (v : ℕ) → v < m → initialAt + m ≤ length ws
+start-cost : (m l : ℕ) (ws : List ℕ) (v : ℕ) → v < m → initialAt + m ≤ length ws
     → initialCost (domainOf m l ws) v ≡ rootCost (directionOf (getD ws 0 0)) (getD ws (initialAt + v) 0)
-unfolding initialCost graphIn
-initial-word m l ws v h fits = go (directionOf (getD ws 0 0))
+unfolding initialCost
+start-cost m l ws v h fits = go (directionOf (getD ws 0 0))
   where
     go : (dir : Direction) → initialBy dir (graphIn m l ws) v ≡ rootCost dir (getD ws (initialAt + v) 0)
-    go forward = getD-take m (drop initialAt ws) v absent h ∙ getD-drop initialAt ws v absent ∙ any-default ws (initialAt + v) absent 0 (omega arith)
+    go forward = initial-word m l ws v absent h fits
     go backward = refl
 
 -- the root's tests as its words have them: s the start vertex, c its cost
@@ -123,7 +89,7 @@ module _ {m l : ℕ} {ws t : List ℕ} (h : Counted m l ws t) where
 
       costs : initialCost (domainOf m l ws) s ≡ c
       costs =
-          initial-word m l ws s (omega arith) (omega (arith, h .can .held .fits))
+          start-cost m l ws s (omega arith) (omega (arith, h .can .held .fits))
           ∙ sym (ec ∙ ap (λ (x : ℕ). rootCost (directionOf (getD ws 0 0)) (getD ws (initialAt + x) 0)) ew)
 
       root : node (treeIn m l t .nodes) 0 ≡ nodeIn t (nodeAt 0)
@@ -194,21 +160,6 @@ module _ {m l i : ℕ} {ws t : List ℕ} (h : Counted m l ws t × (i < getD t 1 
       tests : ℕ → ℕ → ℕ → ℕ → ℕ → ℕ → ℕ → ℕ → ℕ → ℕ → List Bool
       tests p e n a b c v k u j = ltb p i ∷ ltb e n ∷ eqb a u ∷ eqb b v ∷ eqb k (j + c) ∷ eqb (closedAt cl u) (suc p) ∷ []
 
--- f is read as the vertex that edge e leaves
-pub leaves-inside : {m l e f : ℕ} {ws t : List ℕ} → Counted m l ws t → e < l → f ≡ getD ws (edgeAt m e + 0) 0 → f < m
-leaves-inside {m} {l} {e} {ws = ws} h o r =
-    omega (
-      arith,
-      first-word ws (edgeAt m e),
-      from-word m l ws e o,
-      vertices h,
-      h .can .held .accepted .leaves e (omega (arith, edge-count-in m l ws)),
-    )
-
--- x is read at place z + y
-pub closed-read : (m l : ℕ) (t : List ℕ) {v x y z : ℕ} → y < m → z ≡ closedWordsAt l → y ≡ v → x ≡ getD t (z + y) 0 → x ≡ closedAt (treeIn m l t .closed) v
-closed-read m l t {v} o rz ry r = r ∙ (λ k. getD t (rz k + ry k) 0) ∙ sym (tree-closed m l t v (omega arith))
-
 -- the nodes below i pass, node 0 unasked
 pub record HangTo (m l : ℕ) (ws t : List ℕ) (i : ℕ) : Type 0 where
   pub some : 0 < i
@@ -240,56 +191,6 @@ module _ (m l : ℕ) (ws t : List ℕ) where
 
 -- ---- what is so if all pass
 
-module _ (d : Domain) (acc : Accepted (d .graph)) (t : Tree) (some : 0 < length (t .nodes)) (root : allb (rootTests d t) ≡ true) (hang : hangAllb d t ≡ true) where
-  -- each other node
-  others : (i : ℕ) → i ≢ 0 → i < length (t .nodes) → AllTrue (hangTests d (t .nodes) (t .closed) i)
-  unfolding hangsb
-  others i z h = elim (or-cases (eqb i 0) (hangsb d (t .nodes) (t .closed) i) (upto-at _ (length (t .nodes)) hang i h)) [
-    | inl y ↦ absurd (z (eqb-true i 0 y))
-    | inr y ↦ all-true (hangTests d (t .nodes) (t .closed) i) y
-  ]
-
-  -- never `-`
-  root-bound : initialCost d (t .start) ≤ 999999
-  unfolding initialCost
-  root-bound = go (d .direction) (all-true (rootTests d t) root .1 .0)
-    where
-      go : (dir : Direction) → not (eqb (initialBy dir (d .graph) (t .start)) absent) ≡ true → initialBy dir (d .graph) (t .start) ≤ 999999
-      go forward e = elim (acc .starts (t .start)) [ inl z ↦ absurd (eqb-false _ _ (not-true _ e) z) | inr z ↦ z ]
-      go backward e = omega arith
-
-  vertex-inside : (i : ℕ) → i < length (t .nodes) → (node (t .nodes) i) .vertex < vertexCount (d .graph)
-  vertex-inside i h = elim (ℕ-discrete i 0) [
-    | yes z ↦
-        let r = all-true (rootTests d t) root in
-        let e : (node (t .nodes) 0) .vertex ≡ t .start = eqb-true _ _ (r .1 .1 .0) in
-        rw (z, e) (ltb-true _ _ (r .0))
-    | no z ↦
-        let r = others i z h in
-        let x : Node = node (t .nodes) i in
-        let e : to (d .graph) (x .edge) ≡ x .vertex = eqb-true _ _ (r .1 .1 .1 .0) in
-        omega (arith, e, acc .enters (x .edge) (ltb-true _ _ (r .1 .0)))
-  ]
-
-  -- b bounds the node's number
-  cost-in : (b i : ℕ) → i ≤ b → i < length (t .nodes) → (node (t .nodes) i) .cost ≤ 999999 * (1 + i)
-  cost-in zero i le h = first i (omega arith)
-    where
-      first : (i : ℕ) → i ≡ 0 → (node (t .nodes) i) .cost ≤ 999999 * (1 + i)
-      first i z =
-          let e : (node (t .nodes) 0) .cost ≡ initialCost d (t .start) = eqb-true _ _ (all-true (rootTests d t) root .1 .1 .1 .0) in
-          rw z (omega (arith, e, root-bound))
-  cost-in (suc b) i le h = go (cost-in b) (ℕ-discrete i 0)
-    where
-      go : ((p : ℕ) → p ≤ b → p < length (t .nodes) → (node (t .nodes) p) .cost ≤ 999999 * (1 + p)) → Dec (i ≡ 0) → (node (t .nodes) i) .cost ≤ 999999 * (1 + i)
-      go ih (yes e) = rw e (ih 0 (omega arith) some)
-      go ih (no z) =
-          let r = others i z h in
-          let x : Node = node (t .nodes) i in
-          let o : x .parent < i = ltb-true _ _ (r .0) in
-          let e : x .cost ≡ (node (t .nodes) (x .parent)) .cost + cost (d .graph) (x .edge) = eqb-true _ _ (r .1 .1 .1 .1 .0) in
-          omega (arith, e, ih (x .parent) (omega arith) (omega arith), acc .costs (x .edge) (ltb-true _ _ (r .1 .0)))
-
 pub hung-at : (m l : ℕ) (ws t : List ℕ) → Counted m l ws t → allb (rootTests (domainOf m l ws) (treeIn m l t)) ≡ true
     → hangAllb (domainOf m l ws) (treeIn m l t) ≡ true → Hung m l ws t
 unfolding treeIn
@@ -297,8 +198,17 @@ hung-at m l ws t h root hang =
     record {
       counted = h;
       start = start;
-      vertex = λ k o. omega (arith, vertices h, ap (λ (x : Node). x .vertex) (tree-node m l t k o), vertex-inside d acc u some root hang k (omega (arith, tree-nodes m l t)));
-      cost = λ k o. omega (arith, ap (λ (x : Node). x .cost) (tree-node m l t k o), cost-in d acc u some root hang k k (omega arith) (omega (arith, tree-nodes m l t)));
+      vertex = λ k o. omega (
+        arith,
+        vertices h,
+        ap (λ (x : Node). x .vertex) (tree-node m l t k o),
+        hung-inside d acc (u .nodes) (u .closed) root-vertex hangs k (omega (arith, tree-nodes m l t)),
+      );
+      cost = λ k o. omega (
+        arith,
+        ap (λ (x : Node). x .cost) (tree-node m l t k o),
+        hung-cost d acc (u .nodes) (u .closed) root-cost hangs k (omega (arith, tree-nodes m l t)),
+      );
     }
   where
     d : Domain
@@ -310,8 +220,19 @@ hung-at m l ws t h root hang =
     acc : Accepted (d .graph)
     acc = h .can .held .accepted
 
-    some : 0 < length (u .nodes)
-    some = omega (arith, h .some-node, tree-nodes m l t)
+    tests : AllTrue (rootTests d u)
+    tests = all-true (rootTests d u) root
+
+    root-vertex : (node (u .nodes) 0) .vertex < vertexCount (d .graph)
+    root-vertex = let e : (node (u .nodes) 0) .vertex ≡ u .start = eqb-true _ _ (tests .1 .1 .0) in rw e (ltb-true _ _ (tests .0))
+
+    root-cost : (node (u .nodes) 0) .cost ≤ 999999
+    root-cost =
+        let e : (node (u .nodes) 0) .cost ≡ initialCost d (u .start) = eqb-true _ _ (tests .1 .1 .1 .0) in
+        rw e (initial-bound d acc (u .start) (eqb-false _ _ (not-true _ (tests .1 .0))))
+
+    hangs : (i : ℕ) → i ≢ 0 → i < length (u .nodes) → Hangs d (u .nodes) (u .closed) i
+    hangs = all-hang d (u .nodes) (u .closed) (length (u .nodes)) hang
 
     start : getD t 0 0 < m
-    start = omega (arith, vertices h, ltb-true (getD t 0 0) (vertexCount (d .graph)) (all-true (rootTests d u) root .0))
+    start = omega (arith, vertices h, ltb-true (getD t 0 0) (vertexCount (d .graph)) (tests .0))

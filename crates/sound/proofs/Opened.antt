@@ -3,37 +3,34 @@
 use mathlib.Core.Path.{_≡_, refl, sym, ap, ap₂, _∙_, subst}
 use mathlib.Core.Logic.{_≢_}
 use mathlib.Core.Bool.{true}
-use mathlib.Core.List.{List, [], _∷_, _++_, map}
+use mathlib.Core.List.{List, [], _++_}
 use Prim.Native.Nat.{ℕ, zero, suc, _+_, _-_, _*_, _/_, _<_, _≤_}
 use native.Mathlib.Decide.{decLt}
 use native.Mathlib.Nat.{add-zero}
 use native.Mathlib.Omega.{arith}
-use borrow.Author.Tests.{leb-true, le-leb, le-ltb}
+use borrow.Author.Tests.{le-leb, le-ltb}
 use lib.ListN.{length, getD, drop, length-append}
 use Rattle.model.specs.declared.OpenAnswer.the-variants.{Opened}
-use Rattle.model.specs.Lists.{allb, upto}
-use Rattle.model.specs.Graph.{Edge, Graph, Direction, forward, backward, Domain, Accepted, vertexCount, edgeCount, from, to, cost, swap, domain, edgeNumbers}
-use Rattle.model.specs.Sound.{starts, distinctb}
+use Rattle.model.specs.Graph.{Graph, Direction, forward, backward, Domain, Accepted, vertexCount, edgeCount, from, to, cost, domain, edgeNumbers}
 use Rattle.model.specs.Calls.{Cache, opened, written}
-use Rattle.model.proofs.Bools.{and-true, true-and, all-true, true-given}
-use Rattle.model.proofs.Reversed.{accepted-domain}
+use Rattle.model.proofs.Reversed.{accepted-domain, domain-twice}
 use Rattle.text.specs.Print.{printed}
 use Rattle.text.proofs.Printed.{prints}
-use Rattle.layout.specs.Layout.{initialAt, edgesAt, placesAt, numbersAt, slotsAt, slotAt, needed}
+use Rattle.layout.specs.Layout.{initialAt, edgesAt, placesAt, numbersAt, slotsAt, needed}
 use Rattle.layout.specs.Words.{directionWord, firstPlace, openedWords}
 use Rattle.layout.specs.Read.{directionOf, graphIn, domainOf, readCache}
-use Rattle.layout.specs.Sound.{headerTests, graphTests, treesTests, soundWordsb}
+use Rattle.layout.specs.Sound.{soundWordsb}
 use Rattle.layout.specs.Held.{Held}
-use Rattle.layout.proofs.Edges.{vertex-count-in, edge-count-in, from-word, to-word, cost-word}
+use Rattle.layout.proofs.Edges.{initial-word, vertex-count-in, edge-count-in, from-word, to-word, cost-word}
 use Rattle.graph.proofs.Written.{domain-counts}
-use Rattle.tree.proofs.Parts.{part-at, at-zeros}
 use Rattle.cache.specs.Open.{afterOpen, openCache}
 use Rattle.cache.specs.Demand1.{Opens}
 use Rattle.cache.proofs.Opened.{word-of, opened-length, read-opened}
 use Rattle.cache.proofs.OpenedKinds.{place-word, number-word, slot-word}
 use Rattle.cache.proofs.Demand1.{demand-1}
 use Rattle.sound.specs.Opened.{SuchAsOpening}
-use Rattle.sound.proofs.Held.{held-at, at-held}
+use Rattle.sound.specs.Facts.{SoundIn, SoundWords}
+use Rattle.sound.proofs.Facts.{sound-words-at, at-sound-words}
 
 word-within : (dir : Direction) → directionWord dir ≤ 1
 word-within forward = omega arith
@@ -69,37 +66,28 @@ module _ (dir : Direction) (g : Graph) (t : ℕ) (rest : List ℕ) where
     }
 
     module _ (slots : (1 ≤ t) × (t ≤ 64)) where
-      header : allb (headerTests ws) ≡ true
-      unfolding openedWords
-      header =
-          true-given (headerTests ws)
-          (le-leb 5 (length ws) (omega (arith, fits)))
-          (le-leb (directionWord dir) 1 (word-within dir))
-          (le-leb m 1024 (ok .vertices))
-          (le-leb l 2048 (ok .edges))
-          (le-leb 1 t (slots .0))
-          (le-leb t 64 (slots .1))
-          (le-leb 0 t (omega arith))
-          (le-leb (needed m l t) (length ws) fits)
-
-      graph : allb (graphTests (readCache ws .domain) ws) ≡ true
-      unfolding openedWords
-      graph = at-held ws header opened-held
-
       -- no tree is in use, and the words of the slots are 0
-      trees : allb (treesTests ws) ≡ true
-      unfolding openedWords opened distinctb upto
-      trees =
-          true-given (treesTests ws)
-          (ap (λ (c : Cache). distinctb (starts (c .trees))) (read-opened dir g t rest))
-          refl
-          (at-zeros ws (slotAt m l 0) (needed m l t) (λ i h k.
-          let place : slotsAt m l + (i - slotsAt m l) ≡ i = omega arith in
-          rw (← place) (slot-word dir g t rest ok (i - slotsAt m l) (omega arith))))
+      words : SoundIn m l t 0 ws
+      unfolding openedWords
+      words = record {
+        header = omega (arith, fits);
+        direction = word-within dir;
+        some-slot = slots .0;
+        slots = slots .1;
+        used = omega arith;
+        fits = fits;
+        held = opened-held;
+        differ = λ i j a b e. absurd (omega arith);
+        formed = λ i a. absurd (omega arith);
+        sound = λ i a. absurd (omega arith);
+        spare = λ i a b.
+            let place : slotsAt m l + (i - slotsAt m l) ≡ i = omega arith in
+            rw (← place) (slot-word dir g t rest ok (i - slotsAt m l) (omega arith));
+      }
 
       words-sound : soundWordsb ws ≡ true
-      unfolding soundWordsb
-      words-sound = true-and _ _ header (true-and _ _ graph trees)
+      unfolding openedWords
+      words-sound = at-sound-words ws words
 
 -- what an accepted opening leaves is sound
 pub opened-sound : (ws text : List ℕ) (d t : ℕ) (left : List ℕ) → Opens ws text d t left → soundWordsb left ≡ true
@@ -114,10 +102,6 @@ module _ (m l : ℕ) (a b : List ℕ) (ha : Held m l a) (hb : Held m l b) (one :
   alike : (f : Domain → ℕ) (i : ℕ) → f (domainOf m l a) ≡ getD a i 0 → f (domainOf m l b) ≡ getD b i 0 → getD a i 0 ≡ getD b i 0
   alike f i p q = sym p ∙ ap f one ∙ q
 
-  initial-word : (ws : List ℕ) (v : ℕ) → v < m → getD (graphIn m l ws .initial) v 0 ≡ getD ws (initialAt + v) 0
-  unfolding graphIn
-  initial-word ws v h = part-at initialAt m ws v h
-
   alike-edge : (e k : ℕ) → e < l → k < 3 → getD a (edgesAt m + 3 * e + k) 0 ≡ getD b (edgesAt m + 3 * e + k) 0
   alike-edge e zero h lt = rw add-zero (alike (λ d. from (d .graph) e) (edgesAt m + 3 * e) (from-word m l a e h) (from-word m l b e h))
   alike-edge e (suc zero) h lt = alike (λ d. to (d .graph) e) (edgesAt m + 3 * e + 1) (to-word m l a e h) (to-word m l b e h)
@@ -131,7 +115,7 @@ module _ (m l : ℕ) (a b : List ℕ) (ha : Held m l a) (hb : Held m l b) (one :
   graph-words : (j : ℕ) → initialAt ≤ j → j < slotsAt m l → getD a j 0 ≡ getD b j 0
   graph-words j from below = elim (decLt j (edgesAt m)) [
     | yes h ↦ let v : ℕ = j - initialAt in
-        placed j initialAt v (omega arith) (alike (λ d. getD (d .graph .initial) v 0) (initialAt + v) (initial-word a v (omega arith)) (initial-word b v (omega arith)))
+        placed j initialAt v (omega arith) (alike (λ d. getD (d .graph .initial) v 0) (initialAt + v) (initial-word m l a v 0 (omega arith) (omega (arith, ha .fits))) (initial-word m l b v 0 (omega arith) (omega (arith, hb .fits))))
     | no h ↦ elim (decLt j (placesAt m l)) [
       | yes k ↦ let e : ℕ = (j - edgesAt m) / 3 in
           placed j (edgesAt m + 3 * e) (j - edgesAt m - 3 * e) (omega arith) (alike-edge e (j - edgesAt m - 3 * e) (omega arith) (omega arith))
@@ -146,16 +130,6 @@ module _ (m l : ℕ) (a b : List ℕ) (ha : Held m l a) (hb : Held m l b) (one :
 
 -- ---- the opening that writes sound words
 
-swapped-twice : (es : List Edge) → map swap (map swap es) ≡ es
-swapped-twice [] = refl
-swapped-twice (e ∷ es) = ap (λ (xs : List Edge). e ∷ xs) (swapped-twice es)
-
--- a graph held in a backward cache was turned round, and turned round again it is the text's
-domain-twice : (dir : Direction) (g : Graph) → domain dir (domain dir g .graph) ≡ record { direction = dir; graph = g }
-unfolding domain
-domain-twice forward g = refl
-domain-twice backward g = λ i. record { direction = backward; graph = record { initial = g .initial; edges = swapped-twice (g .edges) i } }
-
 module _ (ws : List ℕ) (sound : soundWordsb ws ≡ true) where
   abbrev dir : Direction
   dir = directionOf (getD ws 0 0)
@@ -169,33 +143,23 @@ module _ (ws : List ℕ) (sound : soundWordsb ws ≡ true) where
   abbrev slots : ℕ
   slots = getD ws 3 0
 
-  tests : (allb (headerTests ws) ≡ true) × (allb (graphTests (readCache ws .domain) ws) ≡ true)
-  unfolding soundWordsb
-  tests = let r = and-true (allb (headerTests ws)) _ sound in (r .0, and-true (allb (graphTests (readCache ws .domain) ws)) _ (r .1) .0)
-
-  measures : (getD ws 0 0 ≤ 1) × (1 ≤ slots) × (slots ≤ 64) × (needed vertices edges slots ≤ length ws)
-  measures =
-      let r = all-true (headerTests ws) (tests .0) in
-      let s = r .1 .1 .1 .1 in
-      (leb-true _ _ (r .1 .0), leb-true _ _ (s .0), leb-true _ _ (s .1 .0), leb-true _ _ (s .1 .1 .1 .0))
-
-  ws-held : Held vertices edges ws
-  ws-held = held-at ws (tests .0) (tests .1)
+  ok : SoundWords ws
+  ok = sound-words-at ws sound
 
   -- the graph of the text
   abbrev textGraph : Graph
   textGraph = domain dir (graphIn vertices edges ws) .graph
 
   accepted : Accepted textGraph
-  accepted = accepted-domain dir (graphIn vertices edges ws) (ws-held .accepted)
+  accepted = accepted-domain dir (graphIn vertices edges ws) (ok .held .accepted)
 
   counts : (vertexCount textGraph ≡ vertices) × (edgeCount textGraph ≡ edges)
   counts =
       let c = domain-counts dir (graphIn vertices edges ws) in
-      (c .0 ∙ vertex-count-in vertices edges ws (omega (arith, ws-held .fits)), c .1 ∙ edge-count-in vertices edges ws)
+      (c .0 ∙ vertex-count-in vertices edges ws (omega (arith, ok .held .fits)), c .1 ∙ edge-count-in vertices edges ws)
 
   room : needed (vertexCount textGraph) (edgeCount textGraph) slots ≤ length ws
-  room = rw (counts .0, counts .1) (measures .3)
+  room = rw (counts .0, counts .1) (ok .fits)
 
   abbrev rest : List ℕ
   rest = drop (length (openedWords dir textGraph slots)) ws
@@ -208,9 +172,9 @@ module _ (ws : List ℕ) (sound : soundWordsb ws ≡ true) where
   unfolding openCache
   accepts =
       rw (
-        le-ltb 1 (getD ws 0 0) (measures .0),
-        le-leb 1 slots (measures .1),
-        le-leb slots 64 (measures .2),
+        le-ltb 1 (getD ws 0 0) (ok .direction),
+        le-leb 1 slots (ok .some-slot),
+        le-leb slots 64 (ok .slots),
         prints .reads textGraph accepted,
         le-ltb (length ws) (needed (vertexCount textGraph) (edgeCount textGraph) slots) room,
       )
@@ -228,7 +192,7 @@ module _ (ws : List ℕ) (sound : soundWordsb ws ≡ true) where
 
   header-same : (j : ℕ) → j < 5 → j ≢ 4 → getD left j 0 ≡ getD ws j 0
   unfolding openedWords
-  header-same zero h n = word-of (getD ws 0 0) (measures .0)
+  header-same zero h n = word-of (getD ws 0 0) (ok .direction)
   header-same (suc zero) h n = counts .0
   header-same (suc (suc zero)) h n = counts .1
   header-same (suc (suc (suc zero))) h n = refl
@@ -241,7 +205,7 @@ module _ (ws : List ℕ) (sound : soundWordsb ws ≡ true) where
     opens = demand-1 ws (printed textGraph) (getD ws 0 0) slots Opened left accepts .opened refl;
     same = λ j h n. elim (decLt j 5) [
       | yes k ↦ header-same j k n
-      | no k ↦ graph-words vertices edges left ws left-held ws-held same-domain j (omega arith) h
+      | no k ↦ graph-words vertices edges left ws left-held (ok .held) same-domain j (omega arith) h
     ];
   }
 

@@ -16,12 +16,13 @@ use borrow.Author.Tests.{not-true, not-false, lt-ltb, le-ltb, eq-eqb, ne-eqb}
 use Rattle.model.specs.Lists.{mem, allb, allBelow, upto}
 use Rattle.model.specs.Tree.{precedes}
 use Rattle.model.specs.Sound.{distinctb}
-use Rattle.model.proofs.Bools.{true-or-left, all-true, true-given}
+use Rattle.model.proofs.Bools.{true-or-left, all-true, true-given, upto-same}
 use Rattle.layout.specs.Layout.{nodesAt, nodeAt, queueAt, part}
 use Rattle.layout.specs.Read.{nodesIn}
 use Rattle.layout.specs.Sound.{heapb}
+use Rattle.layout.proofs.Places.{part-at, part-length}
 use Rattle.queue.specs.Queue.{evaluationIn, key}
-use Rattle.tree.proofs.Parts.{part-at, part-length, below-at}
+use Rattle.tree.proofs.Parts.{below-at}
 use Rattle.tree.proofs.Form.{precedes-key}
 use Rattle.sound.specs.Check.{queueTests, QueueWords, lesserIf, leastCost, LeastCosts, QueueTurn, QueueIs}
 use Rattle.sound.proofs.Tests.{all-fails}
@@ -43,11 +44,6 @@ heapTo l t n = heapb (nodesIn (getD t 1 0) (drop nodesAt t)) (part (queueAt l) n
 
 abbrev pub orderb : ℕ → List ℕ → ℕ → Bool
 orderb l t i = eqb i 0 || not (precedes (nodesIn (getD t 1 0) (drop nodesAt t)) (getD t (queueAt l + i) 0) (getD t (queueAt l + (i - 1) / 2) 0))
-
-upto-same : (p r : ℕ → Bool) (n : ℕ) → ((i : ℕ) → i < n → p i ≡ r i) → upto p n ≡ upto r n
-unfolding upto
-upto-same p r zero f = refl
-upto-same p r (suc n) f = ap₂ (λ (a b : Bool). a && b) (f n (omega arith)) (upto-same p r n (λ i h. f i (omega arith)))
 
 heap-words : (l : ℕ) (t : List ℕ) (n : ℕ) → queueAt l + n ≤ length t → heapTo l t n ≡ upto (orderb l t) n
 heap-words l t n fits =

@@ -1,19 +1,19 @@
 -- The slots of a cache stand side by side, and its trees are read off them one by one.
 -- Assumes nothing.
 use mathlib.Core.Path.{_≡_, ap, _∙_}
-use mathlib.Core.List.{List, map}
-use Prim.Native.Nat.{ℕ, zero, suc, _+_, _<_, _≤_}
+use mathlib.Core.List.{List}
+use Prim.Native.Nat.{ℕ, _+_, _<_, _≤_}
 use native.Mathlib.Nat.{mul-le-mul-right}
 use native.Mathlib.Omega.{arith}
 use lib.ListN.{length, getD, length-map, List·getD-map}
-use Rattle.model.specs.Lists.{upFrom, numbers}
+use Rattle.model.specs.Lists.{numbers}
 use Rattle.model.specs.Tree.{Tree}
 use Rattle.model.specs.Sound.{noTree, tree, starts}
-use Rattle.model.proofs.Lists.{up-length}
+use Rattle.model.proofs.Lists.{up-length, map-up-at}
 use Rattle.layout.specs.Layout.{treeWords, slotAt}
 use Rattle.layout.specs.Read.{treeIn, treesIn}
 use Rattle.layout.specs.Sound.{slotWords}
-use Rattle.tree.proofs.Parts.{part-length}
+use Rattle.layout.proofs.Places.{part-length}
 
 pub slot-order : (m l : ℕ) {i j : ℕ} → i ≤ j → slotAt m l i ≤ slotAt m l j
 slot-order m l h = omega (arith, mul-le-mul-right (treeWords m l) h)
@@ -28,12 +28,7 @@ module _ (m l : ℕ) (ws : List ℕ) {i n : ℕ} (h : i < n) where
 
   -- tree i of n, and the vertex at which it starts
   pub tree-in-at : tree (treesIn m l n ws) i ≡ treeIn m l (slotWords m l i ws)
-  tree-in-at = up-at (λ j. treeIn m l (slotWords m l j ws)) n 0 i h ∙ ap (λ (j : ℕ). treeIn m l (slotWords m l j ws)) (omega arith)
-    where
-      up-at : (f : ℕ → Tree) (k a j : ℕ) → j < k → tree (map f (upFrom k a)) j ≡ f (a + j)
-      up-at f zero a j h = absurd (omega arith)
-      up-at f (suc k) a zero h = ap f (omega arith)
-      up-at f (suc k) a (suc j) h = up-at f k (suc a) j (omega arith) ∙ ap f (omega arith)
+  tree-in-at = map-up-at (λ j. treeIn m l (slotWords m l j ws)) noTree n 0 i h ∙ ap (λ (j : ℕ). treeIn m l (slotWords m l j ws)) (omega arith)
 
   pub start-in-at : getD (starts (treesIn m l n ws)) i 0 ≡ getD (slotWords m l i ws) 0 0
   unfolding treeIn

@@ -17,9 +17,9 @@ use Rattle.layout.specs.Read.{treeIn, domainOf}
 use Rattle.layout.proofs.Edges.{edge-count-in}
 use Rattle.layout.proofs.Trees.{tree-nodes}
 use Rattle.tree.specs.Tree.{treeOf}
+use Rattle.tree.proofs.Same.{tree-of}
 use Rattle.sound.specs.Check.{Hung, queueTests, QueueWords, QueueIs, Waits, closerb, begunb, RootMarked, onwardb, LeadsOn, tablesTests}
-use Rattle.sound.proofs.Tests.{all-fails}
-use Rattle.sound.proofs.Nodes.{read-last}
+use Rattle.sound.proofs.Tests.{all-fails, read-last}
 
 module _ {m l : ℕ} {ws t : List ℕ} (h : Hung m l ws t) where
   abbrev d : Domain
@@ -31,9 +31,8 @@ module _ {m l : ℕ} {ws t : List ℕ} (h : Hung m l ws t) where
   abbrev tests : List Bool
   tests = tablesTests d m l t
 
-  -- all words behind the queue are closed words
   same : treeOf l t ≡ u
-  same = ap (λ (n : ℕ). treeIn n l t) (omega (arith, h .counted .can .len))
+  same = tree-of m l t (h .counted .can .len)
 
   pub queue-words : QueueWords l t
   queue-words = record {

@@ -4,36 +4,26 @@
 use mathlib.Core.Path.{_≡_, refl, sym, ap, _∙_}
 use mathlib.Core.Bool.{Bool, true, false, not, _&&_}
 use mathlib.Core.List.{List, [], _∷_}
-use Prim.Native.Nat.{ℕ, suc}
+use Prim.Native.Nat.{ℕ}
 use native.Mathlib.Omega.{arith}
 use lib.Dec.{eqb, leb, ltb}
 use lib.ListN.{length, getD}
 use borrow.Author.Tests.{ltb-true, leb-true, not-true, not-false, lt-ltb, eq-eqb}
-use Rattle.model.specs.Lists.{numbers, keep, those, mem, allb, upto, allIn, Ascends, ascendsb}
+use Rattle.model.specs.Lists.{numbers, mem, allb, upto, allIn, ascendsb}
 use Rattle.model.specs.Graph.{Domain}
 use Rattle.model.specs.Tree.{Tree, node, closedAt, evaluation}
 use Rattle.model.specs.Sound.{closedb, soundTests, soundb}
 use Rattle.model.proofs.Bools.{and-true, true-and, all-true, true-given, upto-at, at-upto, at-all-in, at-ascends}
-use Rattle.model.proofs.Lists.{ascends-from, up-ascends, numbers-mem, those-mem}
+use Rattle.model.proofs.Lists.{up-ascends, numbers-mem, those-mem, those-ascends}
 use Rattle.layout.specs.Read.{treeIn, domainOf}
 use Rattle.layout.specs.Sound.{queueIn, formTests, formedb, treeWordsb}
 use Rattle.layout.proofs.Edges.{vertex-count-in}
 use Rattle.layout.proofs.Trees.{tree-nodes, tree-closed-length}
 use Rattle.sound.specs.Check.{CanCheck, countTests, Counted, rootTests, hangAllb, Hung, queueTests, closerb, tablesTests, HasSpare, spareTests}
-use Rattle.sound.proofs.Tests.{all-fails}
-use Rattle.sound.proofs.Waiting.{same-tests}
-use Rattle.sound.proofs.Nodes.{read-last, hung-at}
+use Rattle.sound.proofs.Tests.{same-tests, all-fails, read-last}
+use Rattle.sound.proofs.Nodes.{hung-at}
 
 -- ---- the waiting list
-
-those-ascends : (p : ℕ → Bool) (b : ℕ) (xs : List ℕ) → Ascends b xs → Ascends b (those p xs)
-unfolding those
-those-ascends p b [] a = tt
-those-ascends p b (x ∷ xs) a = go (those-ascends p (suc x) xs (a .1)) (p x)
-  where
-    go : Ascends (suc x) (those p xs) → (t : Bool) → Ascends b (keep t x (those p xs))
-    go r true = (a .0, r)
-    go r false = ascends-from b (suc x) (those p xs) (omega arith) r
 
 module _ (m l : ℕ) (t : List ℕ) where
   waiting-nodes : allIn (λ i. ltb i (length (treeIn m l t .nodes))) (treeIn m l t .waiting) ≡ true
@@ -55,7 +45,7 @@ upto-both p q n =
     (λ e. let r = and-true (upto p n) (upto q n) e in at-upto _ n (λ i h. true-and (p i) (q i) (upto-at p n (r .0) i h) (upto-at q n (r .1) i h)))
 
 -- as the check makes them
-abbrev pub treeTests : Domain → ℕ → ℕ → List ℕ → List Bool
+abbrev treeTests : Domain → ℕ → ℕ → List ℕ → List Bool
 treeTests d m l t =
     let u = treeIn m l t in
     allb (countTests l t)
@@ -141,7 +131,7 @@ module _ (m l : ℕ) (ws t : List ℕ) (h : CanCheck m l ws t) where
       (tables .1 .1 .1 .0)
       (tables .1 .1 .1 .1 .0))
 
-  pub tree-tests : treeWordsb d m l t ≡ allb (treeTests d m l t)
+  tree-tests : treeWordsb d m l t ≡ allb (treeTests d m l t)
   unfolding treeWordsb
   tree-tests = same-tests _ _ passes passed
 

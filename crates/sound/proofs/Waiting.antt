@@ -1,7 +1,7 @@
 -- The waiting list of a tree has the members of the queue words, if these are all nodes; the first of them costs least.
 -- Assumes nothing.
-use mathlib.Core.Path.{_≡_, refl, sym, ap, _∙_}
-use mathlib.Core.Bool.{Bool, true, false}
+use mathlib.Core.Path.{_≡_, sym, ap, _∙_}
+use mathlib.Core.Bool.{Bool, true}
 use mathlib.Core.List.{List, List·Memᴰ}
 use Prim.Native.Nat.{ℕ, _+_, _<_, _≤_}
 use native.Mathlib.Omega.{arith}
@@ -10,26 +10,21 @@ use lib.Dec.{leb}
 use lib.ListN.{length, getD}
 use borrow.Author.Tests.{ltb-true, leb-true, lt-ltb, le-leb}
 use Rattle.model.specs.Lists.{numbers, mem, allBelow, allIn, anyIn}
-use Rattle.model.specs.Tree.{Node, evaluation}
+use Rattle.model.specs.Tree.{evaluation}
 use Rattle.model.proofs.Bools.{all-true, all-below, all-in-at, at-all-in, any-in-at, at-any-in}
 use Rattle.model.proofs.Lists.{numbers-has, those-mem, those-has, mem-listed, listed-mem}
 use Rattle.layout.specs.Layout.{queueAt, part}
 use Rattle.layout.specs.Read.{treeIn}
 use Rattle.layout.specs.Sound.{queueIn}
-use Rattle.layout.proofs.Trees.{tree-node}
 use Rattle.queue.specs.Queue.{evaluationIn, key, rank, Heap}
 use Rattle.queue.proofs.Heap.{heap-least}
 use Rattle.queue.proofs.Times.{times-place, place-times}
 use Rattle.tree.proofs.Parts.{below-at}
 use Rattle.tree.proofs.Form.{heap-at}
 use Rattle.tree.proofs.Waiting.{mem-times}
+use Rattle.tree.proofs.Closed.{node-cost}
 use Rattle.sound.specs.Check.{queueTests, Waits}
-
--- two tests that pass together are one
-pub same-tests : (a b : Bool) → (a ≡ true → b ≡ true) → (b ≡ true → a ≡ true) → a ≡ b
-same-tests true b f g = sym (f refl)
-same-tests false true f g = g refl
-same-tests false false f g = refl
+use Rattle.sound.proofs.Tests.{same-tests}
 
 module _ (m l : ℕ) (t : List ℕ) (below : allBelow (getD t 1 0) (queueIn l t) ≡ true) where
   waiting-queued : (k : ℕ) → List·Memᴰ k (treeIn m l t .waiting) → List·Memᴰ k (queueIn l t)
@@ -42,7 +37,7 @@ module _ (m l : ℕ) (t : List ℕ) (below : allBelow (getD t 1 0) (queueIn l t)
       let e : mem k (queueIn l t) ≡ true = listed-mem k (queueIn l t) h in
       those-has (λ n. mem n (queueIn l t)) (numbers (getD t 1 0)) k (numbers-has (getD t 1 0) k (all-below (getD t 1 0) (queueIn l t) below k e)) e
 
-  pub all-waiting : (p : ℕ → Bool) → allIn p (treeIn m l t .waiting) ≡ allIn p (queueIn l t)
+  all-waiting : (p : ℕ → Bool) → allIn p (treeIn m l t .waiting) ≡ allIn p (queueIn l t)
   all-waiting p =
       same-tests _ _ (λ e. at-all-in p (queueIn l t) (λ k h. all-in-at p (treeIn m l t .waiting) e k (queued-waiting k h)))
       (λ e. at-all-in p (treeIn m l t .waiting) (λ k h. all-in-at p (queueIn l t) e k (waiting-queued k h)))
@@ -58,10 +53,6 @@ module _ (m l : ℕ) (t : List ℕ) (below : allBelow (getD t 1 0) (queueIn l t)
       same-tests _ _
       (λ e. listed-mem k (queueIn l t) (waiting-queued k (mem-listed k (treeIn m l t .waiting) e)))
       (λ e. listed-mem k (treeIn m l t .waiting) (queued-waiting k (mem-listed k (queueIn l t) e)))
-
--- what a node costs
-pub cost-is : (m l : ℕ) (t : List ℕ) (k : ℕ) → k < getD t 1 0 → evaluation (treeIn m l t .nodes) k ≡ evaluationIn t k
-cost-is m l t k h = ap (λ (x : Node). x .cost) (tree-node m l t k h)
 
 -- ---- the first queue word names a waiting node of the least cost
 
@@ -110,9 +101,9 @@ module _ (m l : ℕ) (t : List ℕ) (w : Waits l t) where
       at-first : allIn p (queueIn l t) ≡ true → leb c (evaluationIn t (getD t (queueAt l) 0)) ≡ true
       at-first e =
           let h = first-queued l t w some in
-          rw (cost-is m l t _ (queued-least l t w _ h .0)) at (all-in-at p (queueIn l t) e (getD t (queueAt l) 0) h)
+          rw (node-cost m l t _ (queued-least l t w _ h .0)) at (all-in-at p (queueIn l t) e (getD t (queueAt l) 0) h)
 
       from-first : leb c (evaluationIn t (getD t (queueAt l) 0)) ≡ true → allIn p (queueIn l t) ≡ true
       from-first e = at-all-in p (queueIn l t) (λ k h.
           let r = queued-least l t w k h in
-          le-leb c (evaluation (treeIn m l t .nodes) k) (omega (arith, leb-true c _ e, cost-is m l t k (r .0))))
+          le-leb c (evaluation (treeIn m l t .nodes) k) (omega (arith, leb-true c _ e, node-cost m l t k (r .0))))

@@ -7,7 +7,7 @@ use mathlib.Core.Option.{Option, none, some, Option·none-ne-some}
 use Prim.Native.Nat.{ℕ, _+_, _<_, _≤_}
 use native.Mathlib.Omega.{arith}
 use borrow.Author.Tests.{ltb-false, leb-false, eqb-true, not-false}
-use Rattle.model.specs.Answers.{Reply, answered, refused}
+use Rattle.model.specs.Answers.{Reply, answered}
 use Rattle.model.specs.Calls.{firstFault}
 use Rattle.model.proofs.Faults.{or-none}
 use Rattle.model.proofs.Replies.{answered-refused}

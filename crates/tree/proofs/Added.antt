@@ -12,7 +12,7 @@ use lib.ListN.{length, getD, set, drop, length-set, length-append, List·getD-ap
 use lib.Seq.{sets, length-sets, getD-set-same, getD-set-other, getD-at, ext-getD}
 use borrow.Author.Tests.{le-leb, lt-leb}
 use Rattle.model.specs.Tree.{Node, noNode, closedAt as closedIn, closedWithin, appended, pushIf, pushNode}
-use Rattle.layout.specs.Layout.{nodesAt, nodeAt, queueAt, closedAt, part}
+use Rattle.layout.specs.Layout.{nodesAt, nodeAt, queueAt, closedAt}
 use Rattle.layout.specs.Read.{nodesIn, treeIn}
 use Rattle.layout.proofs.Trees.{nodeIn, nodes-in-length, node-at}
 use Rattle.queue.specs.Queue.{evaluationIn, one, times, key, rank, CanPush, Pushed}
@@ -21,7 +21,7 @@ use Rattle.tree.specs.declared.Node.{Node as NodeWords}
 use Rattle.tree.specs.declared.partial_keyed_closed_set.ClosedStatus.{ClosedStatus}
 use Rattle.tree.specs.declared.partial_keyed_closed_set.ClosedStatus.the-variants.{Open, Closed}
 use Rattle.tree.specs.Tree.{treeOf, nodeOf, Formed, statusOf, CanAdd, CanPushNode, Holds}
-use Rattle.tree.proofs.Same.{nodes-same, part-same}
+use Rattle.tree.proofs.Same.{nodes-same, closed-same}
 use Rattle.tree.proofs.Waiting.{waits, waiting-pushed, waits-node}
 use Rattle.tree.proofs.Closed.{open-word, closer-word, closer-used, node-fits, node-cost}
 
@@ -199,7 +199,7 @@ module _ {l : ℕ} {s : List ℕ} (h : CanAdd l s) (x : NodeWords) where
 
     tree : treeOf l t ≡ appended (treeOf l s) (nodeOf x)
     unfolding treeIn
-    tree = λ i. record { start = start i; nodes = nodes i; waiting = waiting i; closed = closed i }
+    tree = λ i. record { start = start i; nodes = nodes i; waiting = waiting i; closed = closed-same l s t len (λ j b. behind j (omega (arith, queued))) i }
       where
         start : treeOf l t .start ≡ treeOf l s .start
         start = kept 0 (omega arith) (omega arith) (λ k k4 e. omega arith) (omega arith)
@@ -217,11 +217,6 @@ module _ {l : ℕ} {s : List ℕ} (h : CanAdd l s) (x : NodeWords) where
         waiting =
             waiting-pushed l s t (omega arith) (p .queue .room .fits) used counts
             ∙ ap (λ (n : ℕ). treeOf l s .waiting ++ (n ∷ [])) (sym (nodes-in-length (getD s 1 0) (drop nodesAt s)))
-
-        closed : treeOf l t .closed ≡ treeOf l s .closed
-        closed =
-            ap (λ (n : ℕ). part (closedAt l) (n - closedAt l) t) len
-            ∙ part-same (closedAt l) (length s - closedAt l) s t len (λ j b. behind j (omega (arith, queued)))
 
 -- ---- the calls
 
@@ -272,7 +267,7 @@ module _ {l : ℕ} {s : List ℕ} {x : NodeWords} (c : CanPushNode l s x) {v : �
       test : closedWithin (treeOf l s .nodes) (x .cost) word ≡ leb k (x .cost)
       test =
           ap (closedWithin (treeOf l s .nodes) (x .cost)) closer
-          ∙ ap (λ (y : ℕ). leb y (x .cost)) (node-cost l n s used-node ∙ sym q)
+          ∙ ap (λ (y : ℕ). leb y (x .cost)) (node-cost _ l s n used-node ∙ sym q)
 
       pub push-within : k ≤ x .cost → Holds l s (pushNode (treeOf l s) (nodeOf x))
       push-within h = record { tree = push-is (test ∙ le-leb k (x .cost) h); formed = c .add .formed }

@@ -55,8 +55,8 @@ closer-used {l} {k} {t} v f h e = omega (arith, e, closed-word l t v (closedWord
 pub node-fits : {l k : ℕ} {t : List ℕ} → Formed l t → k < getD t 1 0 → nodeAt k + 4 ≤ length t
 node-fits f h = omega (arith, f .used, f .fits)
 
-pub node-cost : (l k : ℕ) (t : List ℕ) → k < getD t 1 0 → evaluation (treeOf l t .nodes) k ≡ evaluationIn t k
-node-cost l k t h = ap (λ (x : Node). x .cost) (tree-node (length t - closedWordsAt l) l t k h)
+pub node-cost : (m l : ℕ) (t : List ℕ) (k : ℕ) → k < getD t 1 0 → evaluation (treeIn m l t .nodes) k ≡ evaluationIn t k
+node-cost m l t k h = ap (λ (x : Node). x .cost) (tree-node m l t k h)
 
 -- ---- closing a vertex
 

@@ -2,7 +2,7 @@
 -- Assumes nothing.
 use mathlib.Core.Path.{_≡_, refl, sym, ap, ap₂, _∙_}
 use mathlib.Core.Logic.{inl, inr}
-use mathlib.Core.Bool.{Bool, true, false, not, _&&_, _||_}
+use mathlib.Core.Bool.{true, false, not, _&&_, _||_}
 use mathlib.Core.List.{List, [], _∷_}
 use Prim.Native.Nat.{ℕ, zero, suc, _+_, _-_, _/_, _<_, _≤_}
 use native.Mathlib.Omega.{arith}
@@ -13,16 +13,17 @@ use borrow.Author.Tests.{ltb-true, ltb-false, leb-true, eqb-true, not-true, lt-l
 use Rattle.model.specs.Lists.{upFrom, numbers, those, mem, allBelow}
 use Rattle.model.specs.Tree.{Node, evaluation, precedes}
 use Rattle.model.specs.Sound.{distinctb}
-use Rattle.model.proofs.Lists.{up-length, those-length, those-split}
+use Rattle.model.proofs.Lists.{up-mem, up-length, those-none, those-length, those-split}
 use Rattle.model.proofs.Bools.{and-true, or-cases, true-or-left, true-or-right, all-true, true-given, upto-at, at-upto}
 use Rattle.layout.specs.Layout.{nodesAt, nodeAt, queueAt, closedAt}
 use Rattle.layout.specs.Read.{nodesIn, treeIn}
 use Rattle.layout.specs.Sound.{queueIn, heapb, formTests, formedb}
+use Rattle.layout.proofs.Places.{part-at, part-length}
 use Rattle.layout.proofs.Trees.{node-at}
 use Rattle.queue.specs.Queue.{evaluationIn, key, rank, times, Heap}
 use Rattle.queue.proofs.Keys.{key-less, key-more, key-tie}
 use Rattle.tree.specs.Tree.{treeOf, Formed}
-use Rattle.tree.proofs.Parts.{part-at, part-length, zeros-at, at-zeros, below-at, at-below, times-once, once-distinct}
+use Rattle.tree.proofs.Parts.{zeros-at, at-zeros, below-at, at-below, times-once, once-distinct}
 
 -- ---- the queue's order
 
@@ -61,7 +62,7 @@ module _ (l : ℕ) (t : List ℕ) (fits : queueAt l + getD t 2 0 ≤ length t) (
     | inr z ↦ ltb-false _ _ (sym (ranks i ((i - 1) / 2) h (omega arith)) ∙ not-true _ z)
   ]
 
-  pub at-heap : Heap (rank t (queueAt l)) (getD t 2 0) → heapb (nodesIn (getD t 1 0) (drop nodesAt t)) (queueIn l t) ≡ true
+  at-heap : Heap (rank t (queueAt l)) (getD t 2 0) → heapb (nodesIn (getD t 1 0) (drop nodesAt t)) (queueIn l t) ≡ true
   at-heap heap = at-upto _ (length (queueIn l t)) (λ i h.
       let k : i < getD t 2 0 = omega (arith, all) in
       elim (ℕ-discrete i 0) [
@@ -72,23 +73,18 @@ module _ (l : ℕ) (t : List ℕ) (fits : queueAt l + getD t 2 0 ≤ length t) (
 -- ---- the waiting nodes
 
 -- of k numbers from n on: a test that fails at each of them picks none, and one is x
-none : (p : ℕ → Bool) (k n : ℕ) → ((y : ℕ) → n ≤ y → p y ≡ false) → length (those p (upFrom k n)) ≡ 0
-unfolding those
-none p zero n f = refl
-none p (suc k) n f = rw (f n (omega arith)) (none p k (suc n) (λ y h. f y (omega arith)))
-
 single : (x k n : ℕ) → n ≤ x → x < n + k → length (those (λ y. eqb y x) (upFrom k n)) ≡ 1
 unfolding those
 single x zero n h g = absurd (omega arith)
 single x (suc k) n h g = elim (ℕ-discrete n x) [
-  | yes e ↦ rw (eq-eqb n x e) (ap suc (none (λ y. eqb y x) k (suc n) (λ y z. ne-eqb y x (omega arith))))
+  | yes e ↦ rw (eq-eqb n x e) (ap (λ (l : List ℕ). suc (length l)) (those-none (λ y. eqb y x) (upFrom k (suc n)) (λ y m. ne-eqb y x (omega (arith, up-mem k (suc n) y m)))))
   | no ne ↦ rw (ne-eqb n x ne) (single x k (suc n) (omega arith) (omega arith))
 ]
 
 -- of the numbers below u, as many are in a list as it has elements
 listed-length : (u : ℕ) (xs : List ℕ) → allBelow u xs ≡ true → distinctb xs ≡ true → length (those (λ n. mem n xs) (numbers u)) ≡ length xs
 unfolding mem distinctb
-listed-length u [] b d = none (λ n. false) u 0 (λ y h. refl)
+listed-length u [] b d = ap length (those-none (λ n. false) (numbers u) (λ y m. refl))
 listed-length u (x ∷ xs) b d =
     let low = and-true (ltb x u) (allBelow u xs) b in
     let new = and-true (not (mem x xs)) (distinctb xs) d in
@@ -112,7 +108,7 @@ module _ (l : ℕ) (t : List ℕ) (fits : queueAt l + getD t 2 0 ≤ length t)
       ∙ part-length (queueAt l) (getD t 2 0) t fits
 
   -- no more nodes wait than there are
-  pub waiting-fit : getD t 2 0 ≤ getD t 1 0
+  waiting-fit : getD t 2 0 ≤ getD t 1 0
   unfolding treeIn
   waiting-fit = omega (arith, waiting-length, those-length (λ n. mem n (queueIn l t)) (numbers (getD t 1 0)), up-length (getD t 1 0) 0)
 

@@ -46,7 +46,7 @@ module _ {l : ℕ} {t : List ℕ} (v : ℕ) {s : ClosedStatus} (f : Formed l t) 
       considered : (d : Domain) → consider d (treeOf l t .nodes) o (closedAt (treeOf l t .closed) v) ≡ chosen (ltb x y) k i
       considered d =
           ap₂ (consider d (treeOf l t .nodes)) p word
-          ∙ ap₂ (λ (x y : ℕ). chosen (ltb x y) k i) (node-cost l k t goal-node ∙ sym ex) (node-cost l i t (held-node t b p) ∙ sym ey)
+          ∙ ap₂ (λ (x y : ℕ). chosen (ltb x y) k i) (node-cost _ l t k goal-node ∙ sym ex) (node-cost _ l t i (held-node t b p) ∙ sym ey)
 
       pub goal-cheaper : x < y → Considers l t o v (At k)
       goal-cheaper less = record {

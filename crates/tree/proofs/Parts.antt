@@ -8,8 +8,7 @@ use Prim.Native.Nat.{ℕ, zero, suc, _+_, _-_, _<_, _≤_}
 use native.Mathlib.Omega.{arith}
 use native.Mathlib.Decide.{ℕ-discrete, decLt}
 use lib.Dec.{eqb, ltb}
-use lib.ListN.{length, getD, drop, length-take, length-drop}
-use lib.Seq.{length-take-le, getD-take, getD-drop}
+use lib.ListN.{length, getD, drop, length-take}
 use borrow.Author.Tests.{ltb-true, eqb-true, lt-ltb, eq-eqb}
 use Rattle.model.specs.Lists.{allBelow}
 use Rattle.model.specs.Sound.{distinctb}
@@ -17,16 +16,9 @@ use Rattle.model.proofs.Bools.{and-true, true-and}
 use Rattle.model.proofs.Tests.{distinct-at, at-distinct}
 use Rattle.layout.specs.Layout.{part}
 use Rattle.layout.specs.Sound.{zerosb}
+use Rattle.layout.proofs.Places.{part-at, part-length}
 use Rattle.queue.specs.Queue.{times}
 use Rattle.queue.proofs.Times.{one-same, one-other, times-more, times-place, place-times}
-
--- ---- a part, word by word
-
-pub part-at : (a n : ℕ) (t : List ℕ) (i : ℕ) → i < n → getD (part a n t) i 0 ≡ getD t (a + i) 0
-part-at a n t i h = getD-take n (drop a t) i 0 h ∙ getD-drop a t i 0
-
-pub part-length : (a n : ℕ) (t : List ℕ) → a + n ≤ length t → length (part a n t) ≡ n
-part-length a n t h = length-take-le n (drop a t) (omega (arith, length-drop a t))
 
 -- ---- unused words are 0
 

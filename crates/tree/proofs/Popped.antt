@@ -10,19 +10,19 @@ use native.Mathlib.Decide.{ℕ-discrete, decLt}
 use lib.ListN.{length, getD, drop}
 use Rattle.model.specs.Tree.{Node, evaluation, least, leastOf, popped}
 use Rattle.model.proofs.Lists.{Before, before-one, Least, least-is}
-use Rattle.layout.specs.Layout.{nodesAt, queueAt, closedAt, part}
+use Rattle.layout.specs.Layout.{nodesAt, queueAt, closedAt}
 use Rattle.layout.specs.Read.{nodesIn, treeIn}
 use Rattle.queue.specs.declared.Popped.{Popped}
 use Rattle.queue.specs.declared.Popped.the-variants.{Ticket, Empty}
 use Rattle.queue.specs.Queue.{evaluationIn, key, rank, one, times, CanPop, Taken, PoppedIs}
 use Rattle.queue.proofs.Times.{one-same, times-place, place-times}
 use Rattle.tree.specs.Tree.{treeOf, Formed, Pops, PopIs}
-use Rattle.tree.proofs.Same.{nodes-same, part-same}
+use Rattle.tree.proofs.Same.{nodes-same, closed-same}
 use Rattle.tree.proofs.Waiting.{waits, waiting-mem, waiting-has, waiting-popped, waits-node}
 use Rattle.tree.proofs.Closed.{node-cost}
 
 -- what the queue asks for
-pub formed-queue : {l : ℕ} {t : List ℕ} → Formed l t → CanPop t (queueAt l)
+formed-queue : {l : ℕ} {t : List ℕ} → Formed l t → CanPop t (queueAt l)
 formed-queue f = record {
   queue = record {
     room = record { fits = omega arith; nodes = λ i h. omega (arith, f .nodes i h) };
@@ -47,11 +47,14 @@ least-one ns (y ∷ ys) x m f =
 key-before : (l : ℕ) (t : List ℕ) (a b : ℕ) → Formed l t → a < getD t 1 0 → b < getD t 1 0 → key t a ≤ key t b → Before (treeOf l t .nodes) a b
 unfolding key
 key-before l t a b f ha hb h = elim (decLt (evaluationIn t a) (evaluationIn t b)) [
-  | yes less ↦ inl (omega (arith, node-cost l a t ha, node-cost l b t hb))
-  | no more ↦ inr (omega (arith, node-cost l a t ha, node-cost l b t hb))
+  | yes less ↦ inl (omega (arith, cost a ha, cost b hb))
+  | no more ↦ inr (omega (arith, cost a ha, cost b hb))
 ]
+  where
+    cost : (k : ℕ) → k < getD t 1 0 → evaluation (treeOf l t .nodes) k ≡ evaluationIn t k
+    cost = node-cost _ l t
 
-pub least-none : (l : ℕ) (s : List ℕ) → Formed l s → getD s 2 0 ≡ 0 → least (treeOf l s .nodes) (treeOf l s .waiting) ≡ none
+least-none : (l : ℕ) (s : List ℕ) → Formed l s → getD s 2 0 ≡ 0 → least (treeOf l s .nodes) (treeOf l s .waiting) ≡ none
 unfolding least
 least-none l s f e = go (treeOf l s .waiting) (waiting-mem l s (formed-queue f .queue .room .fits))
   where
@@ -78,12 +81,12 @@ module _ {l k m : ℕ} {s t : List ℕ} (f : Formed l s) (p : Taken s t (queueAt
   unfolding rank
   first-least x h = let i = times-place s (queueAt l) (getD s 2 0) x h in rw (i .2) at (p .least (i .0) (omega (arith, i .1)))
 
-  pub taken-first : least (treeOf l s .nodes) (treeOf l s .waiting) ≡ some k
+  taken-first : least (treeOf l s .nodes) (treeOf l s .waiting) ≡ some k
   taken-first =
       least-one (treeOf l s .nodes) (treeOf l s .waiting) k (waiting-has l s fits k (waits-node f k waits-first) waits-first)
       (λ j h. let w = waiting-mem l s fits j h in key-before l s k j f (waits-node f k waits-first) (waits-node f j w) (first-least j w))
 
-  pub taken-formed : Formed l t
+  taken-formed : Formed l t
   taken-formed = record {
     edges = f .edges;
     fits = omega arith;
@@ -101,24 +104,19 @@ module _ {l k m : ℕ} {s t : List ℕ} (f : Formed l s) (p : Taken s t (queueAt
     ];
   }
 
-  pub taken-tree : treeOf l t ≡ popped (treeOf l s) k
+  taken-tree : treeOf l t ≡ popped (treeOf l s) k
   unfolding treeIn popped
   taken-tree = λ i. record {
     start = p .below 0 (omega arith) (omega arith) i;
     nodes = same-nodes i;
     waiting = waiting-popped l s t fits (p .queue .room .fits) k used counts (f .once k) i;
-    closed = same-closed i;
+    closed = closed-same l s t (p .len) (λ j h. p .above j (omega arith)) i;
   }
     where
       same-nodes : treeOf l t .nodes ≡ treeOf l s .nodes
       same-nodes = ap (λ (n : ℕ). nodesIn n (drop nodesAt t)) used ∙ nodes-same (getD s 1 0) s t (λ j a b. p .below j (omega arith) (omega arith))
 
-      same-closed : treeOf l t .closed ≡ treeOf l s .closed
-      same-closed =
-          ap (λ (n : ℕ). part (closedAt l) (n - closedAt l) t) (p .len)
-          ∙ part-same (closedAt l) (length s - closedAt l) s t (p .len) (λ j h. p .above j (omega arith))
-
-  pub taken-pops : Pops l s t k m
+  taken-pops : Pops l s t k m
   taken-pops = record { first = taken-first; tree = taken-tree; formed = taken-formed; node = omega (arith, used, waits-node f k waits-first); left = p .count }
 
 -- ---- the call

@@ -1,15 +1,17 @@
--- Words that stayed hold the same nodes and the same part.
+-- Words that stayed hold the same nodes, the same part and the same closed words; a slot's words hold one tree in either reading.
 -- Assumes nothing.
 use mathlib.Core.Path.{_≡_, sym, ap, _∙_}
 use mathlib.Core.List.{List}
-use Prim.Native.Nat.{ℕ, _+_, _<_, _≤_}
+use Prim.Native.Nat.{ℕ, _+_, _-_, _<_, _≤_}
 use native.Mathlib.Omega.{arith}
-use lib.ListN.{length, getD, take, drop, length-drop}
-use lib.Seq.{ext-getD, getD-drop}
+use lib.ListN.{length, getD, drop, length-take, length-drop}
+use lib.Seq.{ext-getD}
 use Rattle.model.specs.Tree.{noNode}
-use Rattle.layout.specs.Layout.{nodesAt, nodeAt, part}
-use Rattle.layout.specs.Read.{nodesIn}
+use Rattle.layout.specs.Layout.{nodesAt, nodeAt, closedAt, treeWords, part}
+use Rattle.layout.specs.Read.{nodesIn, treeIn}
+use Rattle.layout.proofs.Places.{part-at}
 use Rattle.layout.proofs.Trees.{nodeIn, nodes-in-length, node-at}
+use Rattle.tree.specs.Tree.{treeOf}
 
 -- the n nodes of a tree's own words
 pub nodes-same : (n : ℕ) (s t : List ℕ) → ((j : ℕ) → nodesAt ≤ j → j < nodeAt n → getD t j 0 ≡ getD s j 0)
@@ -27,8 +29,21 @@ nodes-same n s t f =
       edge = f (nodeAt k + 3) (omega arith) (omega arith) i;
     }
 
--- the words from a on
-pub part-same : (a n : ℕ) (s t : List ℕ) → length t ≡ length s → ((j : ℕ) → a ≤ j → getD t j 0 ≡ getD s j 0) → part a n t ≡ part a n s
+-- the n words from a on
+pub part-same : (a n : ℕ) (s t : List ℕ) → length t ≡ length s → ((j : ℕ) → j < n → getD t (a + j) 0 ≡ getD s (a + j) 0) → part a n t ≡ part a n s
 part-same a n s t e f =
-    ap (take n)
-    (ext-getD 0 (drop a t) (drop a s) (omega (arith, length-drop a t, length-drop a s)) (λ i h. getD-drop a t i 0 ∙ f (a + i) (omega arith) ∙ sym (getD-drop a s i 0)))
+    ext-getD 0 (part a n t) (part a n s) (rw (length-take n (drop a t), length-take n (drop a s), length-drop a t, length-drop a s, e)) (λ i h.
+    let k : i < n = omega (arith, length-take n (drop a t)) in
+    part-at a n t i k ∙ f i k ∙ sym (part-at a n s i k))
+
+-- the closed words of a tree, which are its last
+pub closed-same : (l : ℕ) (s t : List ℕ) → length t ≡ length s → ((j : ℕ) → closedAt l ≤ j → getD t j 0 ≡ getD s j 0) → treeOf l t .closed ≡ treeOf l s .closed
+unfolding treeIn
+closed-same l s t e f =
+    ap (λ (n : ℕ). part (closedAt l) (n - closedAt l) t) e ∙ part-same (closedAt l) (length s - closedAt l) s t e (λ j _. f (closedAt l + j) (omega arith))
+
+-- all words behind the queue are closed words
+pub tree-of : (m l : ℕ) (t : List ℕ) → length t ≡ treeWords m l → treeOf l t ≡ treeIn m l t
+tree-of m l t n =
+    let all : length t - closedAt l ≡ m = omega (arith, n) in
+    ap (λ (k : ℕ). treeIn k l t) all

@@ -1,21 +1,21 @@
 -- The waiting nodes of a tree's words, by how often each number stands in the queue.
 -- Assumes nothing.
-use mathlib.Core.Path.{_≡_, refl, sym, ap, _∙_, fun-ext}
-use mathlib.Core.Bool.{Bool, true, false, not, _&&_, _||_}
+use mathlib.Core.Path.{_≡_, refl, sym, ap, ap₂, _∙_, fun-ext}
+use mathlib.Core.Bool.{Bool, true, false, not, _&&_, _||_, or-false}
 use mathlib.Core.List.{List, [], _∷_, _++_, List·Memᴰ}
 use Prim.Native.Nat.{ℕ, zero, suc, _+_, _<_, _≤_}
 use native.Mathlib.Omega.{arith}
-use native.Mathlib.Nat.{add-zero, zero-add}
+use native.Mathlib.Nat.{add-zero}
 use native.Mathlib.Numerals.{add-one}
 use native.Mathlib.Decide.{ℕ-discrete}
 use lib.Dec.{eqb, ltb}
 use lib.ListN.{length, getD, drop, length-drop}
 use lib.Seq.{take-suc, getD-drop}
 use borrow.Author.Tests.{lt-ltb, le-ltb, ltb-true, eq-eqb, ne-eqb}
-use Rattle.model.specs.Lists.{upFrom, numbers, keep, those, mem}
+use Rattle.model.specs.Lists.{numbers, keep, those, mem}
 use Rattle.model.specs.Tree.{without}
 use Rattle.model.proofs.Bools.{true-or-right}
-use Rattle.model.proofs.Lists.{numbers-has, those-mem, those-has}
+use Rattle.model.proofs.Lists.{numbers-mem, numbers-has, numbers-snoc, those-mem, those-has, those-snoc, those-same, mem-snoc}
 use Rattle.layout.specs.Layout.{queueAt, part}
 use Rattle.layout.specs.Read.{treeIn}
 use Rattle.queue.specs.Queue.{one, times}
@@ -23,19 +23,6 @@ use Rattle.queue.proofs.Times.{one-same, one-other, times-place}
 use Rattle.tree.specs.Tree.{treeOf, Formed}
 
 -- ---- membership of the queue words as a count
-
-or-false : (b : Bool) → (b || false) ≡ b
-or-false true = refl
-or-false false = refl
-
-mem-snoc : (x y : ℕ) (l : List ℕ) → mem x (l ++ (y ∷ [])) ≡ (mem x l || eqb x y)
-unfolding mem
-mem-snoc x y [] = or-false (eqb x y)
-mem-snoc x y (z ∷ l) = go (eqb x z) (mem-snoc x y l)
-  where
-    go : (b : Bool) → mem x (l ++ (y ∷ [])) ≡ (mem x l || eqb x y) → (b || mem x (l ++ (y ∷ []))) ≡ ((b || mem x l) || eqb x y)
-    go true e = refl
-    go false e = e
 
 -- one word more
 more : (n w x : ℕ) → (ltb 0 n || eqb x w) ≡ ltb 0 (n + one w x)
@@ -54,9 +41,7 @@ mem-times t q (suc n) x h =
     ∙ ap (λ (w : ℕ). ltb 0 (times t q n x) || eqb x w) (getD-drop q t n 0)
     ∙ more (times t q n x) (getD t (q + n) 0) x
 
--- ---- those numbers at which a test passes
-
--- a test that fails at k too
+-- the numbers at which a test passes, without k
 those-without : (p r : ℕ → Bool) (k : ℕ) → ((i : ℕ) → r i ≡ (not (eqb i k) && p i)) → (xs : List ℕ) → those r xs ≡ without k (those p xs)
 unfolding those without
 those-without p r k f [] = refl
@@ -67,21 +52,6 @@ those-without p r k f (x ∷ xs) = rw (f x, those-without p r k f xs) (go (p x) 
     go true false e = rw (e, without)
     go false true e = refl
     go false false e = refl
-
--- a test that passes at the number after them too
-those-next : (p r : ℕ → Bool) (k n : ℕ) → ((i : ℕ) → i < n + k → r i ≡ p i) → r (n + k) ≡ true
-    → those r (upFrom (suc k) n) ≡ those p (upFrom k n) ++ ((n + k) ∷ [])
-unfolding those
-those-next p r zero n f e = let e′ : r n ≡ true = rw add-zero at e in rw (e′, add-zero)
-those-next p r (suc k) n f e =
-    let z : n + suc k ≡ suc n + k = omega arith in
-    let ih : those r (upFrom (suc k) (suc n)) ≡ those p (upFrom k (suc n)) ++ ((suc n + k) ∷ []) =
-    those-next p r k (suc n) (λ i h. f i (omega arith)) (rw z at e) in
-    rw (f n (omega arith), z, ih) (go (p n) (those p (upFrom k (suc n))) ((suc n + k) ∷ []))
-  where
-    go : (b : Bool) (xs ys : List ℕ) → keep b n (xs ++ ys) ≡ keep b n xs ++ ys
-    go true xs ys = refl
-    go false xs ys = refl
 
 -- ---- the waiting nodes of a tree
 
@@ -124,13 +94,19 @@ module _ (l : ℕ) (s t : List ℕ) (hs : queueAt l + getD s 2 0 ≤ length s) (
   pub waiting-pushed : getD t 1 0 ≡ getD s 1 0 + 1 → ((x : ℕ) → waits l t x ≡ waits l s x + one (getD s 1 0) x)
       → treeOf l t .waiting ≡ treeOf l s .waiting ++ (getD s 1 0 ∷ [])
   waiting-pushed u f =
-      rw (waiting-is l t ht, u, add-one, waiting-is l s hs) (rw zero-add at (those-next (waitsb l s) (waitsb l t) (getD s 1 0) 0 test last))
+      rw (waiting-is l t ht, u, add-one, waiting-is l s hs)
+      (ap (those (waitsb l t)) (numbers-snoc n)
+      ∙ those-snoc (waitsb l t) (numbers n) n
+      ∙ ap₂ (λ (xs : List ℕ) (b : Bool). xs ++ keep b n []) (those-same (waitsb l t) (waitsb l s) (numbers n) test) last)
     where
-      test : (x : ℕ) → x < 0 + getD s 1 0 → waitsb l t x ≡ waitsb l s x
-      test x h = let same : waits l t x ≡ waits l s x = omega (arith, f x, one-other (getD s 1 0) x (omega arith)) in rw same
+      n : ℕ
+      n = getD s 1 0
 
-      last : waitsb l t (0 + getD s 1 0) ≡ true
-      last = rw zero-add (lt-ltb 0 (waits l t (getD s 1 0)) (omega (arith, f (getD s 1 0), one-same (getD s 1 0) (getD s 1 0) refl)))
+      test : (x : ℕ) → List·Memᴰ x (numbers n) → waitsb l t x ≡ waitsb l s x
+      test x h = let same : waits l t x ≡ waits l s x = omega (arith, f x, one-other n x (omega (arith, numbers-mem n x h))) in rw same
+
+      last : waitsb l t n ≡ true
+      last = lt-ltb 0 (waits l t n) (omega (arith, f n, one-same n n refl))
 
 -- what waits is a node
 pub waits-node : {l : ℕ} {t : List ℕ} → Formed l t → (x : ℕ) → 0 < waits l t x → x < getD t 1 0

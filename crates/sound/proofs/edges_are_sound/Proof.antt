@@ -9,7 +9,7 @@ use Rattle.model.specs.Lists.{allb, upto}
 use Rattle.layout.specs.Read.{graphIn}
 use Rattle.layout.specs.Sound.{edgeTests}
 use Rattle.sound.proofs.Tests.{upto-fails, upto-passes}
-use Rattle.sound.proofs.Header.{upto-less}
+use Rattle.sound.proofs.Tests.{upto-less}
 use Rattle.sound.proofs.edges_are_sound.Statement.{statement}
 use Rattle.sound.proofs.edges_are_sound.Tie as tie
 

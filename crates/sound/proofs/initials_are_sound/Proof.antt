@@ -10,7 +10,7 @@ use Rattle.model.specs.Lists.{upto}
 use Rattle.layout.specs.Layout.{initialAt}
 use Rattle.layout.specs.Sound.{initialb}
 use Rattle.sound.proofs.Tests.{upto-fails, upto-passes}
-use Rattle.sound.proofs.Header.{upto-less}
+use Rattle.sound.proofs.Tests.{upto-less}
 use Rattle.sound.proofs.initials_are_sound.Statement.{statement}
 use Rattle.sound.proofs.initials_are_sound.Tie as tie
 

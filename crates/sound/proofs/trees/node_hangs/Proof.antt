@@ -11,7 +11,9 @@ use lib.ListN.{length, getD}
 use Rattle.model.specs.Sound.{hangTests, hangsb}
 use Rattle.layout.specs.Layout.{edgeAt, nodeAt}
 use Rattle.layout.specs.Read.{treeIn, domainOf}
-use Rattle.sound.proofs.Nodes.{hangWords, hang-above, hang-outside, hang-words, leaves-inside, closed-read, read-fails, read-last, read-same, read-differ}
+use Rattle.sound.proofs.Tests.{read-fails, read-last, read-same, read-differ}
+use Rattle.sound.proofs.Nodes.{hangWords, hang-above, hang-outside, hang-words}
+use Rattle.sound.proofs.Edges.{edge-from, closed-word}
 use Rattle.sound.proofs.trees.node_hangs.Statement.{statement}
 use Rattle.sound.proofs.trees.node_hangs.Tie as tie
 
@@ -68,7 +70,7 @@ leaves : (c : tie.After-wide6) → c .wide6 .result < start (edge-known (c .befo
 leaves c =
     let s = c .before .before .before .before .before in
     let e = edge-known s in
-    leaves-inside (start e .pre .0) (e .if2 .left) (c .wide6 .ensures ∙ s .before .before .before .before .before .before .before .before .before .edge-word .ensures)
+    edge-from (start e .pre .0 .can .held) (e .if2 .left) (c .wide6 .ensures ∙ s .before .before .before .before .before .before .before .before .before .edge-word .ensures) .1
 
 place : (c : tie.After-wide6) → let n = c .before .closed-at .result + c .wide6 .result in
     (n < length (start (edge-known (c .before .before .before .before .before)) .args .tree .now)) × (n < 11272)
@@ -94,7 +96,7 @@ returns-6 c =
     let t = s .before .before .before .before in
     let f = t .before .before .before in
     let v = f .before .node-word3 .ensures in
-    ap₂ eqb (c .wide7 .ensures ∙ closed-read _ _ _ (leaves w) (w .before .closed-at .ensures) (w .wide6 .ensures ∙ f .if3 .left ∙ v) refl) (add-one _)
+    ap₂ eqb (c .wide7 .ensures ∙ closed-word _ _ _ (w .before .closed-at .ensures) (w .wide6 .ensures ∙ f .if3 .left ∙ v) (leaves w)) (add-one _)
     ∙ read-last (tests (edge-known s)) 5 refl
     (lt-ltb _ _ (edge-known s .before .before .before .if1 .left))
     (lt-ltb _ _ (edge-known s .if2 .left))
