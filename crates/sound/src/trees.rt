@@ -211,7 +211,8 @@ fn queue_word_is_sound(
         return false;
     }
     if 0 < i {
-        if queue::precedes(tree, word, tree[queue + (i - 1) / 2]) {
+        let before = queue::precedes(tree, word, tree[queue + (i - 1) / 2]);
+        if before {
             return false;
         }
     }
