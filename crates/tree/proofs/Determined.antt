@@ -1,80 +1,124 @@
 -- What the tree that the words hold leaves open: the arrangement of the queue.
 -- Assumes nothing.
-use mathlib.Core.Path.{_≡_, sym, ap, _∙_}
-use mathlib.Core.Logic.{_⊎_, inl, inr}
-use mathlib.Core.List.{List}
+use mathlib.Core.Path.{_≡_, sym, ap, _∙_, subst}
+use mathlib.Core.Logic.{_⊎_, inl, inr, _≢_}
+use mathlib.Core.List.{List, List·Memᴰ}
 use Prim.Native.Nat.{ℕ, _+_, _-_, _/_, _<_, _≤_}
 use native.Mathlib.Omega.{arith}
 use native.Mathlib.Decide.{ℕ-discrete, decLt}
 use lib.ListN.{length, getD, List·getD-eq-default}
-use Rattle.model.specs.Tree.{Node, Tree, node, closedAt}
+use Rattle.model.specs.Tree.{Node, Tree, node, closedAt, popped}
 use Rattle.layout.specs.Layout.{nodeAt, queueAt, closedAt as closedWordsAt}
 use Rattle.layout.specs.Read.{treeIn}
 use Rattle.layout.proofs.Trees.{nodeIn, tree-nodes, tree-node, tree-closed}
-use Rattle.tree.specs.Tree.{treeOf, Formed}
+use Rattle.tree.specs.Tree.{treeOf, Formed, Pops}
 use Rattle.tree.proofs.Form.{waiting-length}
+use Rattle.tree.proofs.Waiting.{waits, waiting-mem, waiting-has, waits-node}
 
-module _ (l : ℕ) (s t : List ℕ) (f : Formed l s) (g : Formed l t) (len : length s ≡ length t) (same : treeOf l s ≡ treeOf l t) where
-  starts : getD s 0 0 ≡ getD t 0 0
-  unfolding treeIn
-  starts = ap (λ (x : Tree). x .start) same
-
-  used : getD s 1 0 ≡ getD t 1 0
-  used = sym (tree-nodes _ l s) ∙ ap (λ (x : Tree). length (x .nodes)) same ∙ tree-nodes _ l t
-
-  -- each node waits once
-  waiting : (u : List ℕ) → Formed l u → length (treeOf l u .waiting) ≡ getD u 2 0
-  waiting u h = waiting-length l u (omega (arith, h .queued, h .used, h .fits)) (h .nodes) (h .once)
-
-  queued : getD s 2 0 ≡ getD t 2 0
-  queued = sym (waiting s f) ∙ ap (λ (x : Tree). length (x .waiting)) same ∙ waiting t g
-
-  nodes : (k : ℕ) → k < getD s 1 0 → nodeIn s (nodeAt k) ≡ nodeIn t (nodeAt k)
-  nodes k h = sym (tree-node _ l s k h) ∙ ap (λ (x : Tree). node (x .nodes) k) same ∙ tree-node _ l t k (omega (arith, used))
-
+module _ (l : ℕ) (s t : List ℕ) (f : Formed l s) (g : Formed l t) (len : length s ≡ length t) where
   at : (i j : ℕ) → i ≡ j → getD s j 0 ≡ getD t j 0 → getD s i 0 ≡ getD t i 0
   at i j e h = rw e h
 
-  -- a word of node k
-  in-node : (i k : ℕ) → k < getD s 1 0 → nodeAt k ≤ i → i < nodeAt k + 4 → getD s i 0 ≡ getD t i 0
-  in-node i k h low high = elim (ℕ-discrete i (nodeAt k)) [
-    | yes e ↦ at i (nodeAt k) e (ap (λ (x : Node). x .vertex) (nodes k h))
-    | no n0 ↦ elim (ℕ-discrete i (nodeAt k + 1)) [
-      | yes e ↦ at i (nodeAt k + 1) e (ap (λ (x : Node). x .cost) (nodes k h))
-      | no n1 ↦ elim (ℕ-discrete i (nodeAt k + 2)) [
-        | yes e ↦ at i (nodeAt k + 2) e (ap (λ (x : Node). x .parent) (nodes k h))
-        | no n2 ↦ at i (nodeAt k + 3) (omega arith) (ap (λ (x : Node). x .edge) (nodes k h))
+  start-kept : treeOf l s .start ≡ treeOf l t .start → getD s 0 0 ≡ getD t 0 0
+  unfolding treeIn
+  start-kept e = e
+
+  -- ---- the nodes give nodes used and the words of all nodes, used or not
+
+  module _ (same : treeOf l s .nodes ≡ treeOf l t .nodes) where
+    used-kept : getD s 1 0 ≡ getD t 1 0
+    used-kept = sym (tree-nodes _ l s) ∙ ap (λ (x : List Node). length x) same ∙ tree-nodes _ l t
+
+    nodes : (k : ℕ) → k < getD s 1 0 → nodeIn s (nodeAt k) ≡ nodeIn t (nodeAt k)
+    nodes k h = sym (tree-node _ l s k h) ∙ ap (λ (x : List Node). node x k) same ∙ tree-node _ l t k (omega (arith, used-kept))
+
+    -- a word of node k
+    in-node : (i k : ℕ) → k < getD s 1 0 → nodeAt k ≤ i → i < nodeAt k + 4 → getD s i 0 ≡ getD t i 0
+    in-node i k h low high = elim (ℕ-discrete i (nodeAt k)) [
+      | yes e ↦ at i (nodeAt k) e (ap (λ (x : Node). x .vertex) (nodes k h))
+      | no n0 ↦ elim (ℕ-discrete i (nodeAt k + 1)) [
+        | yes e ↦ at i (nodeAt k + 1) e (ap (λ (x : Node). x .cost) (nodes k h))
+        | no n1 ↦ elim (ℕ-discrete i (nodeAt k + 2)) [
+          | yes e ↦ at i (nodeAt k + 2) e (ap (λ (x : Node). x .parent) (nodes k h))
+          | no n2 ↦ at i (nodeAt k + 3) (omega arith) (ap (λ (x : Node). x .edge) (nodes k h))
+        ]
       ]
     ]
-  ]
 
-  before : (i : ℕ) → i < queueAt l → getD s i 0 ≡ getD t i 0
-  before i h = elim (decLt i (nodeAt (getD s 1 0))) [
-    | no n ↦ f .spare-nodes i (omega arith) h ∙ sym (g .spare-nodes i (omega (arith, used)) h)
-    | yes y ↦ elim (decLt i 3) [
-      | no n ↦ in-node i ((i - 3) / 4) (omega arith) (omega arith) (omega arith)
+    nodes-kept : (i : ℕ) → 3 ≤ i → i < queueAt l → getD s i 0 ≡ getD t i 0
+    nodes-kept i low h = elim (decLt i (nodeAt (getD s 1 0))) [
+      | yes y ↦ in-node i ((i - 3) / 4) (omega arith) (omega arith) (omega arith)
+      | no n ↦ f .spare-nodes i (omega arith) h ∙ sym (g .spare-nodes i (omega (arith, used-kept)) h)
+    ]
+
+  -- ---- the closed words are the tree's
+
+  closed-kept : treeOf l s .closed ≡ treeOf l t .closed → (i : ℕ) → closedWordsAt l ≤ i → getD s i 0 ≡ getD t i 0
+  closed-kept same i low = elim (decLt i (length s)) [
+    | yes y ↦ at i (closedWordsAt l + (i - closedWordsAt l)) (omega arith) (word (i - closedWordsAt l) (omega arith))
+    | no m ↦ List·getD-eq-default s 0 (omega arith) ∙ sym (List·getD-eq-default t 0 (omega (arith, len)))
+  ]
+    where
+      word : (v : ℕ) → closedWordsAt l + v < length s → getD s (closedWordsAt l + v) 0 ≡ getD t (closedWordsAt l + v) 0
+      word v h =
+          sym (tree-closed (length s - closedWordsAt l) l s v (omega arith))
+          ∙ ap (λ (x : List ℕ). closedAt x v) same
+          ∙ tree-closed (length t - closedWordsAt l) l t v (omega (arith, len))
+
+  -- ---- the waiting nodes give the queue's length and, of each node, whether it stands in the queue
+
+  module _ (same : treeOf l s .waiting ≡ treeOf l t .waiting) where
+    waiting : (u : List ℕ) → Formed l u → length (treeOf l u .waiting) ≡ getD u 2 0
+    waiting u h = waiting-length l u (omega (arith, h .queued, h .used, h .fits)) (h .nodes) (h .once)
+
+    queued-kept : getD s 2 0 ≡ getD t 2 0
+    queued-kept = sym (waiting s f) ∙ ap (λ (x : List ℕ). length x) same ∙ waiting t g
+
+    -- so only the arrangement of the queue words is open
+    pub queue-determined : (x : ℕ) → waits l s x ≡ waits l t x
+    queue-determined x = elim (decLt 0 (waits l s x)) [
+      | yes h ↦ omega (arith, f .once x, g .once x, moved s t f g same h)
+      | no n ↦ elim (decLt 0 (waits l t x)) [ yes h ↦ absurd (n (moved t s g f (sym same) h)) | no k ↦ omega arith ]
+    ]
+      where
+        fits : (u : List ℕ) → Formed l u → queueAt l + getD u 2 0 ≤ length u
+        fits u h = omega (arith, h .queued, h .used, h .fits)
+
+        moved : (u v : List ℕ) → Formed l u → Formed l v → treeOf l u .waiting ≡ treeOf l v .waiting → 0 < waits l u x → 0 < waits l v x
+        moved u v a b e h =
+            waiting-mem l v (fits v b) x (subst (λ (q : List ℕ). List·Memᴰ x q) e (waiting-has l u (fits u a) x (waits-node a x h) h))
+
+  -- ---- all of it
+
+  module _ (same : treeOf l s ≡ treeOf l t) where
+    of-nodes : treeOf l s .nodes ≡ treeOf l t .nodes
+    of-nodes = ap (λ (x : Tree). x .nodes) same
+
+    queued : getD s 2 0 ≡ getD t 2 0
+    queued = queued-kept (ap (λ (x : Tree). x .waiting) same)
+
+    pub words-determined : (i : ℕ) → (i < queueAt l) ⊎ (queueAt l + getD s 2 0 ≤ i) → getD s i 0 ≡ getD t i 0
+    words-determined i (inl h) = elim (decLt i 3) [
+      | no n ↦ nodes-kept of-nodes i (omega arith) h
       | yes z ↦ elim (ℕ-discrete i 0) [
-        | yes e ↦ at i 0 e starts
-        | no n0 ↦ elim (ℕ-discrete i 1) [ yes e ↦ at i 1 e used | no n1 ↦ at i 2 (omega arith) queued ]
+        | yes e ↦ at i 0 e (start-kept (ap (λ (x : Tree). x .start) same))
+        | no n0 ↦ elim (ℕ-discrete i 1) [ yes e ↦ at i 1 e (used-kept of-nodes) | no n1 ↦ at i 2 (omega arith) queued ]
       ]
     ]
-  ]
-
-  closed : (v : ℕ) → closedWordsAt l + v < length s → getD s (closedWordsAt l + v) 0 ≡ getD t (closedWordsAt l + v) 0
-  closed v h =
-      sym (tree-closed (length s - closedWordsAt l) l s v (omega arith))
-      ∙ ap (λ (x : Tree). closedAt (x .closed) v) same
-      ∙ tree-closed (length t - closedWordsAt l) l t v (omega (arith, len))
-
-  behind : (i : ℕ) → queueAt l + getD s 2 0 ≤ i → getD s i 0 ≡ getD t i 0
-  behind i h = elim (decLt i (closedWordsAt l)) [
-    | yes y ↦ f .spare-queue i h y ∙ sym (g .spare-queue i (omega (arith, queued)) y)
-    | no n ↦ elim (decLt i (length s)) [
-      | yes y ↦ at i (closedWordsAt l + (i - closedWordsAt l)) (omega arith) (closed (i - closedWordsAt l) (omega arith))
-      | no m ↦ List·getD-eq-default s 0 (omega arith) ∙ sym (List·getD-eq-default t 0 (omega (arith, len)))
+    words-determined i (inr h) = elim (decLt i (closedWordsAt l)) [
+      | yes y ↦ f .spare-queue i h y ∙ sym (g .spare-queue i (omega (arith, queued)) y)
+      | no n ↦ closed-kept (ap (λ (x : Tree). x .closed) same) i (omega arith)
     ]
-  ]
 
-  pub words-determined : (i : ℕ) → (i < queueAt l) ⊎ (queueAt l + getD s 2 0 ≤ i) → getD s i 0 ≡ getD t i 0
-  words-determined i (inl h) = before i h
-  words-determined i (inr h) = behind i h
+-- a ticket taken: every word but the queue's length and the queue words is as it was
+pub popped-words : (l : ℕ) (s t : List ℕ) (k m : ℕ) → Formed l s → Pops l s t k m → length s ≡ length t
+    → (i : ℕ) → i ≢ 2 → (i < queueAt l) ⊎ (closedWordsAt l ≤ i) → getD s i 0 ≡ getD t i 0
+unfolding popped
+popped-words l s t k m f p len i ne (inl h) = elim (decLt i 3) [
+  | no n ↦ nodes-kept l s t f (p .formed) len (sym (ap (λ (x : Tree). x .nodes) (p .tree))) i (omega arith) h
+  | yes z ↦ elim (ℕ-discrete i 0) [
+    | yes e ↦ at l s t f (p .formed) len i 0 e (start-kept l s t f (p .formed) len (sym (ap (λ (x : Tree). x .start) (p .tree))))
+    | no n0 ↦ at l s t f (p .formed) len i 1 (omega arith) (used-kept l s t f (p .formed) len (sym (ap (λ (x : Tree). x .nodes) (p .tree))))
+  ]
+]
+popped-words l s t k m f p len i ne (inr h) = closed-kept l s t f (p .formed) len (sym (ap (λ (x : Tree). x .closed) (p .tree))) i h

@@ -72,7 +72,7 @@ module _ (l : ℕ) (t : List ℕ) (fits : queueAt l + getD t 2 0 ≤ length t) (
 
 -- ---- the waiting nodes
 
--- of k numbers from n on: a test that fails at each of them picks none, and one is x
+-- of k numbers from n on: a test that fails at each of them takes none, and one is x
 single : (x k n : ℕ) → n ≤ x → x < n + k → length (those (λ y. eqb y x) (upFrom k n)) ≡ 1
 unfolding those
 single x zero n h g = absurd (omega arith)
