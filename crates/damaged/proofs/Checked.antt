@@ -1,23 +1,20 @@
 -- What is known of words that the check found sound.
 -- Assumes nothing.
-use mathlib.Core.Path.{_≡_, refl, sym, _∙_}
-use mathlib.Core.Bool.{Bool, true, false, not}
+use mathlib.Core.Path.{_≡_, sym, _∙_}
+use mathlib.Core.Bool.{Bool, false, not}
 use mathlib.Core.List.{List}
 use Prim.Native.Nat.{ℕ, _<_, _≤_}
 use native.Mathlib.Omega.{arith}
+use borrow.Author.Tests.{not-false}
 use lib.ListN.{length, getD}
 use Rattle.layout.specs.Sound.{soundWordsb}
 use Rattle.sound.specs.Facts.{SoundWords}
 use Rattle.sound.proofs.Facts.{sound-words-at}
 use Rattle.grow.specs.Grow.{CanGrow}
 
-passed : (r : Bool) → not r ≡ false → r ≡ true
-passed true e = refl
-passed false e = sym e
-
 module _ (ws : List ℕ) {r : Bool} (e : r ≡ soundWordsb ws) (p : not r ≡ false) where
   sound : SoundWords ws
-  sound = sound-words-at ws (sym e ∙ passed r p)
+  sound = sound-words-at ws (sym e ∙ not-false r p)
 
   pub has-header : (4 < 5) × (5 ≤ length ws)
   has-header = (omega arith, sound .header)

@@ -72,7 +72,7 @@ module _ (l : ℕ) (t : List ℕ) (v c : ℕ) (at : c ≡ closedWordsAt l) (h : 
 pub first-fits : (l : ℕ) (t : List ℕ) (q : ℕ) → Waits l t → (getD t 2 0 ≡ 0 → ⊥) → q ≡ queueAt l → nodeAt (getD t q 0) + 4 ≤ length t
 first-fits l t q w more eq =
     let node : getD t q 0 < getD t 1 0 = rw (eq, ← add-zero (queueAt l)) (queued-node l t w 0 (omega arith)) in
-    omega (arith, w .used, w .fits)
+    omega (arith, w .areas .used, w .areas .fits)
 
 -- ---- the root
 

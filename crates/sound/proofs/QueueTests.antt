@@ -141,7 +141,7 @@ fail-on l m t (suc n) h f e = elim (ℕ-discrete m (suc n)) [
 -- the words before place i passed; the queue stands from q on, and its word there is n
 module _ {l i q n : ℕ} {t : List ℕ} {marks : List Bool} {costs : List ℕ} (turn : QueueTurn l t i marks costs) (queue : q ≡ queueAt l) (word : n ≡ getD t (q + i) 0) where
   fits : queueAt l + i < length t
-  fits = omega (arith, turn .words .fits, turn .words .queued, turn .place)
+  fits = omega (arith, turn .words .areas .fits, turn .words .areas .queued, turn .place)
 
   word-is : getD t (queueAt l + i) 0 ≡ n
   word-is = sym (word ∙ ap (λ (a : ℕ). getD t (a + i) 0) queue)
@@ -160,7 +160,7 @@ module _ {l i q n : ℕ} {t : List ℕ} {marks : List Bool} {costs : List ℕ} (
     module _ (h : n < u) where
       marked : mem (getD t (queueAt l + i) 0) (part (queueAt l) i t) ≡ getD marks n false
       marked =
-          sym (turn .tables .marked .mark n (omega (arith, turn .words .used, turn .words .edges)) ∙ ap (λ (x : ℕ). mem x (part (queueAt l) i t)) (sym word-is))
+          sym (turn .tables .marked .mark n (omega (arith, turn .words .areas .used, turn .words .areas .edges)) ∙ ap (λ (x : ℕ). mem x (part (queueAt l) i t)) (sym word-is))
 
       pub twice : {ms : List Bool} {cs : List ℕ} → getD marks n false ≡ true → QueueIs l t (i + 1) false ms cs
       twice e = fails 1 (ap not (marked ∙ e))
@@ -173,12 +173,12 @@ module _ {l i q n : ℕ} {t : List ℕ} {marks : List Bool} {costs : List ℕ} (
             rw queue (below-at t (queueAt l) i (getD t 1 0) (omega (arith, fits)) (r .0) ((i - 1) / 2) (omega arith))
 
         pub parent-node : nodeAt (getD t (q + (i - 1) / 2) 0) + 4 ≤ length t
-        parent-node = omega (arith, parent, turn .words .used, turn .words .fits)
+        parent-node = omega (arith, parent, turn .words .areas .used, turn .words .areas .fits)
 
         order : {r : Bool} → r ≡ ltb (key t (getD t (q + i) 0)) (key t (getD t (q + (i - 1) / 2) 0)) → orderb l t i ≡ not r
         order e =
             rw (ne-eqb i 0 (omega arith))
-            (ap not (precedes-key t (getD t (queueAt l + i) 0) (getD t (queueAt l + (i - 1) / 2) 0) (omega (arith, turn .words .used, turn .words .edges)) (omega (arith, word-is, used)) (rw queue at parent)
+            (ap not (precedes-key t (getD t (queueAt l + i) 0) (getD t (queueAt l + (i - 1) / 2) 0) (omega (arith, turn .words .areas .used, turn .words .areas .edges)) (omega (arith, word-is, used)) (rw queue at parent)
             ∙ sym (rw queue at e)))
 
         pub before-parent : {r : Bool} {ms : List Bool} {cs : List ℕ} → r ≡ ltb (key t (getD t (q + i) 0)) (key t (getD t (q + (i - 1) / 2) 0)) → r ≡ true
@@ -210,7 +210,7 @@ module _ {l i q n : ℕ} {t : List ℕ} {marks : List Bool} {costs : List ℕ} (
               record {
                 answer = sym (tests
                     ∙ true-given (wordTests l t i) (lt-ltb (getD t (queueAt l + i) 0) (getD t 1 0) (omega (arith, word-is, used))) (ap not (marked ∙ new)) ordered);
-                tables = λ z. record { marked = rw more (marked-more (turn .tables .marked) (omega (arith, turn .words .used, turn .words .edges))); least = rw more s };
+                tables = λ z. record { marked = rw more (marked-more (turn .tables .marked) (omega (arith, turn .words .areas .used, turn .words .areas .edges))); least = rw more s };
               }
 
           pub lower : c < getD costs v 0 → QueueIs l t (i + 1) true (set marks n true) (set costs v c)
@@ -235,7 +235,7 @@ module _ {l i n : ℕ} {t : List ℕ} (words : QueueWords l t) (queued : n ≡ g
 
   pub queue-fails : {r : Bool} {ms ks : List Bool} {cs ds : List ℕ} → QueueIs l t (i + 1) r ms cs → not r ≡ true → QueueIs l t (getD t 2 0) false ks ds
   queue-fails {r} q e = record {
-    answer = sym (fail-on l (i + 1) t (getD t 2 0) (omega arith) (omega (arith, words .queued, words .fits)) (sym (q .answer) ∙ not-true r e));
+    answer = sym (fail-on l (i + 1) t (getD t 2 0) (omega arith) (omega (arith, words .areas .queued, words .areas .fits)) (sym (q .answer) ∙ not-true r e));
     tables = λ z. absurd (true≢false (sym z));
   }
 

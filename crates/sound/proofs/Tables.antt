@@ -18,8 +18,11 @@ use Rattle.layout.proofs.Edges.{edge-count-in}
 use Rattle.layout.proofs.Trees.{tree-nodes}
 use Rattle.tree.specs.Tree.{treeOf}
 use Rattle.tree.proofs.Same.{tree-of}
-use Rattle.sound.specs.Check.{Hung, queueTests, QueueWords, QueueIs, Waits, closerb, begunb, RootMarked, onwardb, LeadsOn, tablesTests}
+use Rattle.sound.specs.Check.{Areas, Counted, Hung, queueTests, QueueWords, QueueIs, Waits, closerb, begunb, RootMarked, onwardb, LeadsOn, tablesTests}
 use Rattle.sound.proofs.Tests.{all-fails, read-last}
+
+pub areas : {m l : ℕ} {ws t : List ℕ} → Counted m l ws t → Areas l t
+areas h = record { edges = h .can .held .sized .edges; fits = omega (arith, h .can .len); used = h .used; queued = h .queued }
 
 module _ {m l : ℕ} {ws t : List ℕ} (h : Hung m l ws t) where
   abbrev d : Domain
@@ -36,10 +39,7 @@ module _ {m l : ℕ} {ws t : List ℕ} (h : Hung m l ws t) where
 
   pub queue-words : QueueWords l t
   queue-words = record {
-    edges = h .counted .can .held .sized .edges;
-    fits = omega (arith, h .counted .can .len);
-    used = h .counted .used;
-    queued = h .counted .queued;
+    areas = areas (h .counted);
     vertex = λ k o. omega (arith, h .vertex k o, h .counted .can .held .sized .vertices);
   }
 
@@ -80,18 +80,11 @@ module _ {m l : ℕ} {ws t : List ℕ} (h : Hung m l ws t) where
     passed = sym (q .answer) ∙ not-false r yes
 
     pub waits : Waits l t
-    waits = record {
-      edges = h .counted .can .held .sized .edges;
-      fits = omega (arith, h .counted .can .len);
-      used = h .counted .used;
-      queued = h .counted .queued;
-      queue = passed;
-    }
+    waits = record { areas = areas (h .counted); queue = passed }
 
     pub root-marked : RootMarked l t marks
     root-marked = record {
       waits = waits;
-      some-node = h .counted .some-node;
       start = omega (arith, h .counted .can .len, h .start);
       marked = q .tables (not-false r yes) .marked;
     }

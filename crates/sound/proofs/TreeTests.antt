@@ -19,9 +19,10 @@ use Rattle.layout.specs.Read.{treeIn, domainOf}
 use Rattle.layout.specs.Sound.{queueIn, formTests, formedb, treeWordsb}
 use Rattle.layout.proofs.Edges.{vertex-count-in}
 use Rattle.layout.proofs.Trees.{tree-nodes, tree-closed-length}
-use Rattle.sound.specs.Check.{CanCheck, countTests, Counted, rootTests, hangAllb, Hung, queueTests, closerb, tablesTests, HasSpare, spareTests}
+use Rattle.sound.specs.Check.{CanCheck, countTests, Counted, rootTests, hangAllb, Hung, queueTests, closerb, tablesTests, Areas, spareTests}
 use Rattle.sound.proofs.Tests.{same-tests, all-fails, read-last}
 use Rattle.sound.proofs.Nodes.{hung-at}
+use Rattle.sound.proofs.Tables.{areas}
 
 -- ---- the waiting list
 
@@ -148,13 +149,8 @@ module _ {m l : ℕ} {ws t : List ℕ} (h : CanCheck m l ws t) where
         let c = all-true (countTests l t) (sym ea ∙ not-false a pa) in
         record { can = h; some-node = ltb-true 0 _ (c .0); used = leb-true _ _ (c .1 .0); queued = leb-true _ _ (c .1 .1 .0) }
 
-    pub has-spare : HasSpare l t
-    has-spare = record {
-      edges = h .held .sized .edges;
-      fits = omega (arith, h .len);
-      used = counted .used;
-      queued = counted .queued;
-    }
+    pub has-areas : Areas l t
+    has-areas = areas counted
 
     module _ {b c : Bool} (eb : b ≡ allb (rootTests (domainOf m l ws) (treeIn m l t))) (pb : not b ≡ false) (ec : c ≡ hangAllb (domainOf m l ws) (treeIn m l t)) (pc : not c ≡ false) where
       pub hung : Hung m l ws t

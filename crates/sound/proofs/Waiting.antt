@@ -58,7 +58,7 @@ module _ (m l : ℕ) (t : List ℕ) (below : allBelow (getD t 1 0) (queueIn l t)
 
 module _ (l : ℕ) (t : List ℕ) (w : Waits l t) where
   fits : queueAt l + getD t 2 0 ≤ length t
-  fits = omega (arith, w .queued, w .fits)
+  fits = omega (arith, w .areas .queued, w .areas .fits)
 
   pub all-below-used : allBelow (getD t 1 0) (queueIn l t) ≡ true
   all-below-used = all-true (queueTests l t (getD t 2 0)) (w .queue) .0
@@ -67,13 +67,13 @@ module _ (l : ℕ) (t : List ℕ) (w : Waits l t) where
   queued-node = below-at t (queueAt l) (getD t 2 0) (getD t 1 0) fits all-below-used
 
   heap : Heap (rank t (queueAt l)) (getD t 2 0)
-  heap = heap-at l t fits (omega (arith, w .used, w .edges)) queued-node (all-true (queueTests l t (getD t 2 0)) (w .queue) .1 .1 .0)
+  heap = heap-at l t fits (omega (arith, w .areas .used, w .areas .edges)) queued-node (all-true (queueTests l t (getD t 2 0)) (w .queue) .1 .1 .0)
 
   first-least : (i : ℕ) → i < getD t 2 0 → evaluationIn t (getD t (queueAt l) 0) ≤ evaluationIn t (getD t (queueAt l + i) 0)
   unfolding rank key
   first-least i h =
       let least : key t (getD t (queueAt l) 0) ≤ key t (getD t (queueAt l + i) 0) = rw add-zero at (heap-least heap i h) in
-      omega (arith, queued-node i h, w .used, w .edges)
+      omega (arith, queued-node i h, w .areas .used, w .areas .edges)
 
   first-queued : 0 < getD t 2 0 → List·Memᴰ (getD t (queueAt l) 0) (queueIn l t)
   first-queued some =

@@ -72,12 +72,16 @@ queueTests l t n =
     ∷ heapb (nodesIn (getD t 1 0) (drop nodesAt t)) q
     ∷ []
 
--- nodes and queue words are within their areas, and each node's vertex is below 1,024
-pub record QueueWords (l : ℕ) (t : List ℕ) : Type 0 where
+-- nodes and queue words are within their areas
+pub record Areas (l : ℕ) (t : List ℕ) : Type 0 where
   pub edges : l ≤ 2048
   pub fits : closedWordsAt l ≤ length t
   pub used : getD t 1 0 ≤ 1 + l
   pub queued : getD t 2 0 ≤ 1 + l
+
+-- and each node's vertex is below 1,024
+pub record QueueWords (l : ℕ) (t : List ℕ) : Type 0 where
+  pub areas : Areas l t
   pub vertex : (k : ℕ) → k < getD t 1 0 → getD t (nodeAt k) 0 < 1024
 
 -- n marks: those of the numbers xs are on
@@ -120,10 +124,7 @@ pub record QueueIs (l : ℕ) (t : List ℕ) (n : ℕ) (r : Bool) (marks : List B
 
 -- a tree's words whose queue words passed
 pub record Waits (l : ℕ) (t : List ℕ) : Type 0 where
-  pub edges : l ≤ 2048
-  pub fits : closedWordsAt l ≤ length t
-  pub used : getD t 1 0 ≤ 1 + l
-  pub queued : getD t 2 0 ≤ 1 + l
+  pub areas : Areas l t
   pub queue : allb (queueTests l t (getD t 2 0)) ≡ true
 
 -- "a closed word names a node of that motif costing no more than any waiting node"
@@ -138,7 +139,6 @@ begunb t = not (eqb (closedAt (t .closed) (t .start)) 0) || mem 0 (t .waiting)
 
 pub record RootMarked (l : ℕ) (t : List ℕ) (marks : List Bool) : Type 0 where
   pub waits : Waits l t
-  pub some-node : 0 < getD t 1 0
   pub start : HasVertex l t (getD t 0 0)
   pub marked : Marked marks 2049 (queueIn l t)
 
@@ -166,12 +166,6 @@ tablesTests d m l t =
     ∷ []
 
 -- ---- unused words
-
-pub record HasSpare (l : ℕ) (t : List ℕ) : Type 0 where
-  pub edges : l ≤ 2048
-  pub fits : closedWordsAt l ≤ length t
-  pub used : getD t 1 0 ≤ 1 + l
-  pub queued : getD t 2 0 ≤ 1 + l
 
 abbrev pub spareTests : ℕ → List ℕ → List Bool
 spareTests l t =

@@ -12,7 +12,7 @@ ghost use Rattle.layout.specs.Layout.{initialAt, closedAt};
 ghost use Rattle.layout.specs.Read.{directionOf, treeIn, domainOf};
 ghost use Rattle.layout.specs.Sound.{zerosb, treeWordsb};
 ghost use Rattle.tree.specs.Tree.{treeOf, HasVertex};
-ghost use Rattle.sound.specs.Check.{CanCheck, countTests, Counted, rootCost, rootTests, hangAllb, Hung, QueueWords, QueueTurn, QueueIs, Waits, closerb, begunb, RootMarked, onwardb, LeadsOn, tablesTests, HasSpare, spareTests};
+ghost use Rattle.sound.specs.Check.{CanCheck, countTests, Counted, rootCost, rootTests, hangAllb, Hung, QueueWords, QueueTurn, QueueIs, Waits, closerb, begunb, RootMarked, onwardb, LeadsOn, tablesTests, Areas, spareTests};
 
 // A tree has at most one node more than there are edges.
 const MAX_NODES: usize = 2049;
@@ -341,7 +341,7 @@ fn edge_leads_on(
 
 // Unused nodes and queue words are 0.
 fn spare_is_zero(tree: &[u32], edges: usize) -> bool
-    requires { ⌜ HasSpare edges (now tree) ⌝ }
+    requires { ⌜ Areas edges (now tree) ⌝ }
     ensures { λ r. ⌜ r ≡ allb (spareTests edges (now (tree .entry))) ⌝ }
 {
     let nodes = layout::NODES_AT + 4 * wide(tree[layout::NODES]);

@@ -2,7 +2,7 @@
 -- Assumes nothing.
 use mathlib.Core.Path.{refl}
 use borrow.Author.Needs.{needs}
-use Rattle.sound.proofs.TreeTests.{tree-fails, counted, has-spare, hung, tree-last}
+use Rattle.sound.proofs.TreeTests.{tree-fails, counted, has-areas, hung, tree-last}
 use Rattle.sound.proofs.trees.tree_is_sound.Statement.{statement}
 use Rattle.sound.proofs.trees.tree_is_sound.Tie as tie
 
@@ -48,5 +48,5 @@ tree-is-sound-spec =
     (λ c. search needs)
     queue-and-edges-are-sound-requires
     returns-4
-    (λ c κs. search has-spare)
+    (λ c κs. search has-areas)
     (λ c. search tree-last))
