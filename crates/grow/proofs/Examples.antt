@@ -7,7 +7,6 @@ use mathlib.Core.List.{List, [], _∷_}
 use Prim.Native.Nat.{ℕ, _+_, _<_}
 use native.Mathlib.Omega.{arith}
 use lib.ListN.{length, getD}
-use Rattle.model.specs.declared.CostBound.{CostBound}
 use Rattle.model.specs.declared.CostBound.the-variants.{Unbounded, Bound}
 use Rattle.model.specs.Tree.{Tree, Growth, Going, found, over, grow}
 use Rattle.model.specs.Sound.{tree}

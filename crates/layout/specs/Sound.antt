@@ -2,14 +2,13 @@
 -- Assumes nothing.
 use mathlib.Core.Bool.{Bool, true, false, not, _&&_, _||_}
 use mathlib.Core.List.{List, [], _∷_}
-use Prim.Native.Nat.{ℕ, _+_, _-_, _*_, _/_}
+use Prim.Native.Nat.{ℕ, _+_, _-_, _/_}
 use lib.Dec.{eqb, leb, ltb}
 use lib.ListN.{length, getD, drop}
 use Rattle.model.specs.Lists.{allb, allBelow, upto}
 use Rattle.model.specs.Graph.{Graph, Domain, from, to, cost, absent, vertexCount, edgeCount, edgeNumbers}
-use Rattle.model.specs.Tree.{Node, Tree, precedes}
+use Rattle.model.specs.Tree.{Node, precedes}
 use Rattle.model.specs.Sound.{soundb, starts, distinctb}
-use Rattle.model.specs.Calls.{Cache}
 use Rattle.layout.specs.Layout.{headerWords, placesAt, numbersAt, nodesAt, nodeAt, queueAt, closedAt, treeWords, slotAt, needed, part}
 use Rattle.layout.specs.Words.{firstPlaces}
 use Rattle.layout.specs.Read.{nodesIn, treeIn, readCache}
@@ -79,18 +78,29 @@ queueIn l t = part (queueAt l) (getD t 2 0) t
 abbrev pub heapb : List Node → List ℕ → Bool
 heapb ns q = upto (λ i. eqb i 0 || not (precedes ns (getD q i 0) (getD q ((i - 1) / 2) 0))) (length q)
 
+-- the first n queue words: "queue words are distinct nodes in heap order by cost, then number"
+abbrev pub queueTests : ℕ → List ℕ → ℕ → List Bool
+queueTests l t n =
+    let q = part (queueAt l) n t in
+    allBelow (getD t 1 0) q
+    ∷ distinctb q
+    ∷ heapb (nodesIn (getD t 1 0) (drop nodesAt t)) q
+    ∷ []
+
+-- unused nodes, unused queue words
+abbrev pub spareTests : ℕ → List ℕ → List Bool
+spareTests l t =
+    zerosb (part (nodeAt (getD t 1 0)) (queueAt l - nodeAt (getD t 1 0)) t)
+    ∷ zerosb (part (queueAt l + getD t 2 0) (closedAt l - (queueAt l + getD t 2 0)) t)
+    ∷ []
+
+-- nodes used and queue length are within their areas
 abbrev pub formTests : ℕ → List ℕ → List Bool
 formTests l t =
-    -- nodes used and queue length are within their areas
     leb (getD t 1 0) (1 + l)
     ∷ leb (getD t 2 0) (1 + l)
-    -- "queue words are distinct nodes in heap order by cost, then number"
-    ∷ allBelow (getD t 1 0) (queueIn l t)
-    ∷ distinctb (queueIn l t)
-    ∷ heapb (nodesIn (getD t 1 0) (drop nodesAt t)) (queueIn l t)
-    -- unused nodes, unused queue words
-    ∷ zerosb (part (nodeAt (getD t 1 0)) (queueAt l - nodeAt (getD t 1 0)) t)
-    ∷ zerosb (part (queueAt l + getD t 2 0) (closedAt l - (queueAt l + getD t 2 0)) t)
+    ∷ allb (queueTests l t (getD t 2 0))
+    ∷ allb (spareTests l t)
     ∷ []
 
 unfoldable pub formedb : ℕ → List ℕ → Bool

@@ -22,9 +22,10 @@ use Rattle.layout.specs.Read.{treeIn, domainOf}
 use Rattle.layout.specs.Held.{Held}
 use Rattle.layout.proofs.Edges.{from-word, to-word, cost-word, vertex-count-in, edge-count-in}
 use Rattle.layout.proofs.Trees.{tree-nodes, tree-closed}
+use Rattle.layout.specs.Sound.{queueTests}
 use Rattle.queue.specs.Queue.{evaluationIn}
 use Rattle.tree.proofs.Closed.{node-cost}
-use Rattle.sound.specs.Check.{queueTests, closerb, onwardb, LeadsOn}
+use Rattle.sound.specs.Check.{closerb, onwardb, LeadsOn}
 use Rattle.sound.proofs.Tests.{same-tests}
 use Rattle.sound.proofs.LeastCosts.{waits-within}
 

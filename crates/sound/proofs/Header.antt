@@ -15,9 +15,9 @@ use Rattle.model.specs.Graph.{Graph, absent, from, to, vertexCount}
 use Rattle.model.proofs.Bools.{all-true}
 use Rattle.layout.specs.Layout.{Sized, edgeAt, nodeAt, queueAt, closedAt, needed, part}
 use Rattle.layout.specs.Read.{graphIn}
-use Rattle.layout.specs.Sound.{headerTests, initialb, edgeTests, zerosb}
+use Rattle.layout.specs.Sound.{headerTests, initialb, edgeTests, zerosb, spareTests}
 use Rattle.layout.proofs.Edges.{vertex-count-in, from-word, to-word, cost-word}
-use Rattle.sound.specs.Check.{HasGraph, spareTests}
+use Rattle.sound.specs.Check.{HasGraph}
 use Rattle.sound.proofs.Tests.{all-fails, read-last}
 
 -- ---- the header

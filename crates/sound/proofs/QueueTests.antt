@@ -19,12 +19,12 @@ use Rattle.model.specs.Sound.{distinctb}
 use Rattle.model.proofs.Bools.{true-or-left, all-true, true-given, upto-same}
 use Rattle.layout.specs.Layout.{nodesAt, nodeAt, queueAt, part}
 use Rattle.layout.specs.Read.{nodesIn}
-use Rattle.layout.specs.Sound.{heapb}
+use Rattle.layout.specs.Sound.{heapb, queueTests}
 use Rattle.layout.proofs.Places.{part-at, part-length}
 use Rattle.queue.specs.Queue.{evaluationIn, key}
 use Rattle.tree.proofs.Parts.{below-at}
 use Rattle.tree.proofs.Form.{precedes-key}
-use Rattle.sound.specs.Check.{queueTests, QueueWords, lesserIf, leastCost, LeastCosts, QueueTurn, QueueIs}
+use Rattle.sound.specs.Check.{QueueWords, lesserIf, leastCost, LeastCosts, QueueTurn, QueueIs}
 use Rattle.sound.proofs.Tests.{all-fails}
 use Rattle.sound.proofs.Marks.{distinct-snoc, marked-none, marked-more}
 

@@ -16,9 +16,10 @@ use Rattle.layout.specs.Layout.{closedAt as closedWordsAt}
 use Rattle.layout.specs.Read.{treeIn, domainOf}
 use Rattle.layout.proofs.Edges.{edge-count-in}
 use Rattle.layout.proofs.Trees.{tree-nodes}
+use Rattle.layout.specs.Sound.{queueTests}
 use Rattle.tree.specs.Tree.{treeOf}
 use Rattle.tree.proofs.Same.{tree-of}
-use Rattle.sound.specs.Check.{Areas, Counted, Hung, queueTests, QueueWords, QueueIs, Waits, closerb, begunb, RootMarked, onwardb, LeadsOn, tablesTests}
+use Rattle.sound.specs.Check.{Areas, Counted, Hung, QueueWords, QueueIs, Waits, closerb, begunb, RootMarked, onwardb, LeadsOn, tablesTests}
 use Rattle.sound.proofs.Tests.{all-fails, read-last}
 
 pub areas : {m l : ℕ} {ws t : List ℕ} → Counted m l ws t → Areas l t

@@ -16,10 +16,10 @@ use Rattle.model.specs.Sound.{closedb, soundTests, soundb}
 use Rattle.model.proofs.Bools.{and-true, true-and, all-true, true-given, upto-at, at-upto, at-all-in, at-ascends}
 use Rattle.model.proofs.Lists.{up-ascends, numbers-mem, those-mem, those-ascends}
 use Rattle.layout.specs.Read.{treeIn, domainOf}
-use Rattle.layout.specs.Sound.{queueIn, formTests, formedb, treeWordsb}
+use Rattle.layout.specs.Sound.{queueIn, formTests, formedb, treeWordsb, spareTests}
 use Rattle.layout.proofs.Edges.{vertex-count-in}
 use Rattle.layout.proofs.Trees.{tree-nodes, tree-closed-length}
-use Rattle.sound.specs.Check.{CanCheck, countTests, Counted, rootTests, hangAllb, Hung, queueTests, closerb, tablesTests, Areas, spareTests}
+use Rattle.sound.specs.Check.{CanCheck, countTests, Counted, rootTests, hangAllb, Hung, closerb, tablesTests, Areas}
 use Rattle.sound.proofs.Tests.{same-tests, all-fails, read-last}
 use Rattle.sound.proofs.Nodes.{hung-at}
 use Rattle.sound.proofs.Tables.{areas}
@@ -85,8 +85,6 @@ module _ (m l : ℕ) (ws t : List ℕ) (h : CanCheck m l ws t) where
       let r = and-true (formedb l t) (soundb d u) e in
       let f = all-true (formTests l t) (r .0) in
       let s = all-true (soundTests d u) (r .1) in
-      let queue = f .1 .1 in
-      let spare = queue .1 .1 .1 in
       let root = s .1 in
       let hangs = root .1 .1 .1 .1 .1 .1 in
       let closed = hangs .1 .1 .1 .1 in
@@ -95,12 +93,12 @@ module _ (m l : ℕ) (ws t : List ℕ) (h : CanCheck m l ws t) where
       (true-given (rootTests d u) (root .0) (root .1 .0) (root .1 .1 .0) (root .1 .1 .1 .0) (root .1 .1 .1 .1 .0) (root .1 .1 .1 .1 .1 .0))
       (hangs .0)
       (true-given (tablesTests d m l t)
-      (true-given (queueTests l t (getD t 2 0)) (queue .0) (queue .1 .0) (queue .1 .1 .0))
+      (f .1 .1 .0)
       (closers ∙ true-and _ _ (closed .0) (closed .1 .0))
       (closed .1 .1 .0)
       (closed .1 .1 .1 .0)
       (closed .1 .1 .1 .1 .0))
-      (true-given (spareTests l t) (spare .0) (spare .1 .0))
+      (f .1 .1 .1 .0)
 
   passed : allb (treeTests d m l t) ≡ true → (formedb l t && soundb d u) ≡ true
   unfolding formedb soundb
@@ -109,11 +107,9 @@ module _ (m l : ℕ) (ws t : List ℕ) (h : CanCheck m l ws t) where
       let c = all-true (countTests l t) (r .0) in
       let root = all-true (rootTests d u) (r .1 .0) in
       let tables = all-true (tablesTests d m l t) (r .1 .1 .1 .0) in
-      let queue = all-true (queueTests l t (getD t 2 0)) (tables .0) in
       let closed = and-true _ _ (sym closers ∙ tables .1 .0) in
-      let spare = all-true (spareTests l t) (r .1 .1 .1 .1 .0) in
       true-and (formedb l t) (soundb d u)
-      (true-given (formTests l t) (c .1 .0) (c .1 .1 .0) (queue .0) (queue .1 .0) (queue .1 .1 .0) (spare .0) (spare .1 .0))
+      (true-given (formTests l t) (c .1 .0) (c .1 .1 .0) (tables .0) (r .1 .1 .1 .1 .0))
       (true-given (soundTests d u)
       (some ∙ c .0)
       (root .0)

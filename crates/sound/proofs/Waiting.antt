@@ -15,7 +15,7 @@ use Rattle.model.proofs.Bools.{all-true, all-below, all-in-at, at-all-in, any-i
 use Rattle.model.proofs.Lists.{numbers-has, those-mem, those-has, mem-listed, listed-mem}
 use Rattle.layout.specs.Layout.{queueAt, part}
 use Rattle.layout.specs.Read.{treeIn}
-use Rattle.layout.specs.Sound.{queueIn}
+use Rattle.layout.specs.Sound.{queueIn, queueTests}
 use Rattle.queue.specs.Queue.{evaluationIn, key, rank, Heap}
 use Rattle.queue.proofs.Heap.{heap-least}
 use Rattle.queue.proofs.Times.{times-place, place-times}
@@ -23,7 +23,7 @@ use Rattle.tree.proofs.Parts.{below-at}
 use Rattle.tree.proofs.Form.{heap-at}
 use Rattle.tree.proofs.Waiting.{mem-times}
 use Rattle.tree.proofs.Closed.{node-cost}
-use Rattle.sound.specs.Check.{queueTests, Waits}
+use Rattle.sound.specs.Check.{Waits}
 use Rattle.sound.proofs.Tests.{same-tests}
 
 module _ (m l : ℕ) (t : List ℕ) (below : allBelow (getD t 1 0) (queueIn l t) ≡ true) where

@@ -5,15 +5,14 @@ use mathlib.Core.Bool.{Bool, true, false, not, _&&_, _||_}
 use mathlib.Core.List.{List, [], _∷_}
 use Prim.Native.Nat.{ℕ, suc, _+_, _-_, _*_, _<_, _≤_, min}
 use lib.Dec.{eqb, leb, ltb}
-use lib.ListN.{length, getD, drop, replicate}
-use Rattle.model.specs.Lists.{mem, allb, allBelow, upto, allIn}
+use lib.ListN.{length, getD}
+use Rattle.model.specs.Lists.{mem, allb, upto, allIn}
 use Rattle.model.specs.Graph.{Domain, Direction, forward, backward, from, to, absent, vertexCount, edgesInUse, initialCost}
-use Rattle.model.specs.Tree.{Tree, Node, node, closedAt, evaluation, weight}
+use Rattle.model.specs.Tree.{Tree, node, closedAt, evaluation, weight}
 use Rattle.model.specs.Sound.{closedb, reachedb, hangsb, closedEdges, starts, distinctb}
-use Rattle.model.specs.Calls.{Cache}
-use Rattle.layout.specs.Layout.{Sized, placesAt, nodesAt, nodeAt, queueAt, closedAt as closedWordsAt, treeWords, slotAt, part}
-use Rattle.layout.specs.Read.{nodesIn, treeIn, treesIn, domainOf, readCache}
-use Rattle.layout.specs.Sound.{zerosb, headerTests, graphTests, queueIn, heapb, treeWordsb, slotWords}
+use Rattle.layout.specs.Layout.{Sized, placesAt, nodeAt, queueAt, closedAt as closedWordsAt, treeWords, slotAt, part}
+use Rattle.layout.specs.Read.{treeIn, treesIn, domainOf, readCache}
+use Rattle.layout.specs.Sound.{headerTests, graphTests, queueIn, treeWordsb, slotWords, queueTests}
 use Rattle.layout.specs.Held.{Held}
 use Rattle.queue.specs.Queue.{evaluationIn}
 use Rattle.tree.specs.Tree.{HasVertex}
@@ -62,15 +61,6 @@ pub record Hung (m l : ℕ) (ws t : List ℕ) : Type 0 where
   pub cost : (k : ℕ) → k < getD t 1 0 → evaluationIn t k ≤ 999999 * (1 + k)
 
 -- ---- the queue, with a mark for each node and the least waiting costs
-
--- the first n queue words are "distinct nodes in heap order by cost, then number"
-abbrev pub queueTests : ℕ → List ℕ → ℕ → List Bool
-queueTests l t n =
-    let q = part (queueAt l) n t in
-    allBelow (getD t 1 0) q
-    ∷ distinctb q
-    ∷ heapb (nodesIn (getD t 1 0) (drop nodesAt t)) q
-    ∷ []
 
 -- nodes and queue words are within their areas
 pub record Areas (l : ℕ) (t : List ℕ) : Type 0 where
@@ -163,14 +153,6 @@ tablesTests d m l t =
     ∷ leb (length (u .nodes)) (suc (length (closedEdges (d .graph) (u .closed))))
     ∷ begunb u
     ∷ allIn (onwardb d u) (edgesInUse (d .graph))
-    ∷ []
-
--- ---- unused words
-
-abbrev pub spareTests : ℕ → List ℕ → List Bool
-spareTests l t =
-    zerosb (part (nodeAt (getD t 1 0)) (queueAt l - nodeAt (getD t 1 0)) t)
-    ∷ zerosb (part (queueAt l + getD t 2 0) (closedWordsAt l - (queueAt l + getD t 2 0)) t)
     ∷ []
 
 -- ---- the whole

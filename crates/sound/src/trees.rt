@@ -10,9 +10,9 @@ ghost use Rattle.model.specs.Graph.{edgesInUse};
 ghost use Rattle.model.specs.Sound.{hangsb, closedEdges};
 ghost use Rattle.layout.specs.Layout.{initialAt, closedAt};
 ghost use Rattle.layout.specs.Read.{directionOf, treeIn, domainOf};
-ghost use Rattle.layout.specs.Sound.{zerosb, treeWordsb};
+ghost use Rattle.layout.specs.Sound.{zerosb, treeWordsb, spareTests};
 ghost use Rattle.tree.specs.Tree.{treeOf, HasVertex};
-ghost use Rattle.sound.specs.Check.{CanCheck, countTests, Counted, rootCost, rootTests, hangAllb, Hung, QueueWords, QueueTurn, QueueIs, Waits, closerb, begunb, RootMarked, onwardb, LeadsOn, tablesTests, Areas, spareTests};
+ghost use Rattle.sound.specs.Check.{CanCheck, countTests, Counted, rootCost, rootTests, hangAllb, Hung, QueueWords, QueueTurn, QueueIs, Waits, closerb, begunb, RootMarked, onwardb, LeadsOn, tablesTests, Areas};
 
 // A tree has at most one node more than there are edges.
 const MAX_NODES: usize = 2049;

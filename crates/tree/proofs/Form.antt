@@ -17,7 +17,7 @@ use Rattle.model.proofs.Lists.{up-mem, up-length, those-none, those-length, tho
 use Rattle.model.proofs.Bools.{and-true, or-cases, true-or-left, true-or-right, all-true, true-given, upto-at, at-upto}
 use Rattle.layout.specs.Layout.{nodesAt, nodeAt, queueAt, closedAt}
 use Rattle.layout.specs.Read.{nodesIn, treeIn}
-use Rattle.layout.specs.Sound.{queueIn, heapb, formTests, formedb}
+use Rattle.layout.specs.Sound.{queueIn, heapb, queueTests, spareTests, formTests, formedb}
 use Rattle.layout.proofs.Places.{part-at, part-length}
 use Rattle.layout.proofs.Trees.{node-at}
 use Rattle.queue.specs.Queue.{evaluationIn, key, rank, times, Heap}
@@ -119,11 +119,13 @@ pub formed-at : (l : ℕ) (t : List ℕ) → l ≤ 2048 → closedAt l ≤ lengt
 unfolding formedb
 formed-at l t edges fits vertices closers e =
     let r = all-true (formTests l t) e in
+    let queue = all-true (queueTests l t (getD t 2 0)) (r .1 .1 .0) in
+    let spare = all-true (spareTests l t) (r .1 .1 .1 .0) in
     let used : getD t 1 0 ≤ 1 + l = leb-true _ _ (r .0) in
     let room : getD t 2 0 ≤ 1 + l = leb-true _ _ (r .1 .0) in
     let fit : queueAt l + getD t 2 0 ≤ length t = omega arith in
-    let below : (i : ℕ) → i < getD t 2 0 → getD t (queueAt l + i) 0 < getD t 1 0 = below-at t (queueAt l) (getD t 2 0) (getD t 1 0) fit (r .1 .1 .0) in
-    let once : (x : ℕ) → times t (queueAt l) (getD t 2 0) x ≤ 1 = times-once t (queueAt l) (getD t 2 0) fit (r .1 .1 .1 .0) in
+    let below : (i : ℕ) → i < getD t 2 0 → getD t (queueAt l + i) 0 < getD t 1 0 = below-at t (queueAt l) (getD t 2 0) (getD t 1 0) fit (queue .0) in
+    let once : (x : ℕ) → times t (queueAt l) (getD t 2 0) x ≤ 1 = times-once t (queueAt l) (getD t 2 0) fit (queue .1 .0) in
     record {
       edges = edges;
       fits = fits;
@@ -132,10 +134,10 @@ formed-at l t edges fits vertices closers e =
       queued = waiting-fit l t fit below once;
       nodes = below;
       once = once;
-      heap = heap-at l t fit (omega arith) below (r .1 .1 .1 .1 .0);
+      heap = heap-at l t fit (omega arith) below (queue .1 .1 .0);
       closers = closers;
-      spare-nodes = zeros-at t (nodeAt (getD t 1 0)) (queueAt l) (r .1 .1 .1 .1 .1 .0);
-      spare-queue = zeros-at t (queueAt l + getD t 2 0) (closedAt l) (r .1 .1 .1 .1 .1 .1 .0);
+      spare-nodes = zeros-at t (nodeAt (getD t 1 0)) (queueAt l) (spare .0);
+      spare-queue = zeros-at t (queueAt l + getD t 2 0) (closedAt l) (spare .1 .0);
     }
 
 pub at-formed : (l : ℕ) (t : List ℕ) → Formed l t → formedb l t ≡ true
@@ -145,8 +147,10 @@ at-formed l t f =
     true-given (formTests l t)
     (le-leb _ _ (f .used))
     (le-leb (getD t 2 0) (1 + l) (omega (arith, f .queued, f .used)))
+    (true-given (queueTests l t (getD t 2 0))
     (at-below t (queueAt l) (getD t 2 0) (getD t 1 0) fit (f .nodes))
     (once-distinct t (queueAt l) (getD t 2 0) fit (f .once))
-    (at-heap l t fit (omega (arith, f .used, f .edges)) (f .nodes) (f .heap))
+    (at-heap l t fit (omega (arith, f .used, f .edges)) (f .nodes) (f .heap)))
+    (true-given (spareTests l t)
     (at-zeros t (nodeAt (getD t 1 0)) (queueAt l) (f .spare-nodes))
-    (at-zeros t (queueAt l + getD t 2 0) (closedAt l) (f .spare-queue))
+    (at-zeros t (queueAt l + getD t 2 0) (closedAt l) (f .spare-queue)))
