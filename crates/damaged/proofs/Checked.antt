@@ -10,7 +10,7 @@ use lib.ListN.{length, getD}
 use Rattle.layout.specs.Sound.{soundWordsb}
 use Rattle.sound.specs.Facts.{SoundWords}
 use Rattle.sound.proofs.Facts.{sound-words-at}
-use Rattle.grow.specs.Grow.{CanGrow}
+use Rattle.grow.specs.Grow.{InUse}
 
 module _ (ws : List ℕ) {r : Bool} (e : r ≡ soundWordsb ws) (p : not r ≡ false) where
   sound : SoundWords ws
@@ -19,5 +19,5 @@ module _ (ws : List ℕ) {r : Bool} (e : r ≡ soundWordsb ws) (p : not r ≡ fa
   pub has-header : (4 < 5) × (5 ≤ length ws)
   has-header = (omega arith, sound .header)
 
-  pub can-grow : {u i : ℕ} → u ≡ getD ws 4 0 → i < u → CanGrow ws i
+  pub can-grow : {u i : ℕ} → u ≡ getD ws 4 0 → i < u → InUse ws i
   can-grow q h = record { sound = sound; slot = omega arith }

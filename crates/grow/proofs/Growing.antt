@@ -24,7 +24,7 @@ use Rattle.sound.proofs.Slots.{tree-in-at}
 use Rattle.grow.specs.declared.Going.{Going as Next}
 use Rattle.grow.specs.declared.Going.the-variants as next
 use Rattle.grow.specs.declared.Slot.{Slot}
-use Rattle.grow.specs.Grow.{CanGrow, growthOf, Grew, slotOf, treeAt, domainAt, Ready, Holds, CanVisit, goingOf, Visits}
+use Rattle.grow.specs.Grow.{InUse, growthOf, Grew, slotOf, treeAt, domainAt, Ready, Holds, CanVisit, goingOf, Visits}
 use Rattle.grow.proofs.Slots.{mid-slot, tree-lent, put-holds, holds-trans, holds-refl, ready-after, domain-after}
 use Rattle.grow.proofs.Tickets.{stepped, ticket-is, ticket-none, ticket-sound, grow-over, grow-found}
 use Rattle.grow.proofs.Room.{can-visit}
@@ -32,7 +32,7 @@ use Rattle.grow.proofs.Kept.{slot-ready, kept}
 
 -- ---- the end: the slot holds the tree of the model's growth
 
-module _ {ws : List ℕ} {i : ℕ} (gs : List ℕ) (b : CostBound) (can : CanGrow ws i) where
+module _ {ws : List ℕ} {i : ℕ} (gs : List ℕ) (b : CostBound) (can : InUse ws i) where
   growth-is : growthOf ws i gs b ≡ grow (domainAt (slotOf ws i) ws) gs b 10 (record { tree = treeAt (slotOf ws i) ws; tickets = 0; going = on })
   unfolding readCache
   growth-is =
@@ -58,7 +58,7 @@ module _ {ws : List ℕ} {i : ℕ} (gs : List ℕ) (b : CostBound) (can : CanGro
 
 -- the model's growth is what growing by the tickets left comes to, from the tree that the slot holds
 pub record Growing (ws : List ℕ) (i : ℕ) (gs : List ℕ) (b : CostBound) (s : Slot) (words : List ℕ) (left tickets : ℕ) : Type 0 where
-  pub can : CanGrow ws i
+  pub can : InUse ws i
   pub slot : s ≡ slotOf ws i
   pub ready : Ready s words
   pub holds : Holds s ws words (treeAt s words)
@@ -66,7 +66,7 @@ pub record Growing (ws : List ℕ) (i : ℕ) (gs : List ℕ) (b : CostBound) (s 
   pub count : left + tickets ≡ 10
   pub grows : growthOf ws i gs b ≡ grow (domainAt s ws) gs b left (record { tree = treeAt s words; tickets = tickets; going = on })
 
-pub growing-none : {ws : List ℕ} {i : ℕ} (gs : List ℕ) (b : CostBound) {s : Slot} → CanGrow ws i → s ≡ slotOf ws i → Growing ws i gs b s ws 10 0
+pub growing-none : {ws : List ℕ} {i : ℕ} (gs : List ℕ) (b : CostBound) {s : Slot} → InUse ws i → s ≡ slotOf ws i → Growing ws i gs b s ws 10 0
 growing-none {ws} {i} gs b {s} can e =
     subst (λ (x : Slot). Growing ws i gs b x ws 10 0) (sym e) (record {
       can = can;

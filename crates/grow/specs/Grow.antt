@@ -28,7 +28,7 @@ use Rattle.grow.specs.declared.Slot.{Slot}
 -- ---- the promise of `grow`
 
 -- slot i is in use
-pub record CanGrow (ws : List ℕ) (i : ℕ) : Type 0 where
+pub record InUse (ws : List ℕ) (i : ℕ) : Type 0 where
   pub sound : SoundWords ws
   pub slot : i < getD ws 4 0
 

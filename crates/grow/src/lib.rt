@@ -13,7 +13,7 @@ ghost use Rattle.model.specs.Lists.{mem};
 ghost use Rattle.model.specs.Graph.{choices, edgeNumbers};
 ghost use Rattle.model.specs.Tree.{pushAll, pushNode, child, above};
 ghost use Rattle.layout.specs.Layout.{Sized};
-ghost use Rattle.grow.specs.Grow.{CanGrow, Grew, slotOf, treeAt, domainAt, Holds, CanPushChoice, CanPushChoices, CanVisit, Visits, GoesOn};
+ghost use Rattle.grow.specs.Grow.{InUse, Grew, slotOf, treeAt, domainAt, Holds, CanPushChoice, CanPushChoices, CanVisit, Visits, GoesOn};
 
 // "at most ten tickets": the Rust's `iterations_per_step`.
 pub const ITERATIONS_PER_STEP: usize = 10;
@@ -42,7 +42,7 @@ pub enum Going {
 
 // Takes at most ten tickets of the tree in a slot.
 pub fn grow(words: &mut [u32], slot: usize, goals: &[u32], bound: CostBound) -> Growth
-    requires { ⌜ CanGrow (now words) slot ⌝ }
+    requires { ⌜ InUse (now words) slot ⌝ }
     ensures { λ r. ⌜ Grew (now (words .entry)) slot (now (goals .entry)) bound r (now (words .exit)) ⌝ }
 {
     let s = slot_of(words, slot);
@@ -81,7 +81,7 @@ pub fn grow(words: &mut [u32], slot: usize, goals: &[u32], bound: CostBound) -> 
     }
 }
 
-fn slot_of(words: &[u32], slot: usize) -> Slot
+pub fn slot_of(words: &[u32], slot: usize) -> Slot
     requires { ⌜ (5 ≤ length (now words)) × (Sized (getD (now words) 1 0) (getD (now words) 2 0) × (slot < 64)) ⌝ }
     ensures { λ r. ⌜ r ≡ slotOf (now (words .entry)) slot ⌝ }
 {
@@ -159,7 +159,7 @@ fn going_on(goals: &[u32], bound: CostBound, vertex: u32, cost: u32) -> Going
     Going::On
 }
 
-fn contains(goals: &[u32], vertex: u32) -> bool
+pub fn contains(goals: &[u32], vertex: u32) -> bool
     ensures { λ r. ⌜ r ≡ mem vertex (now (goals .entry)) ⌝ }
 {
     let mut i = 0;

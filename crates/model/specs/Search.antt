@@ -47,6 +47,62 @@ withExhausted s x =
       exhausted = x;
     }
 
+-- ---- what the methods of a search change: one entry or goal more, a count remembered, a find held, the best
+
+abbrev pub withTree : Search → ℕ → TreeMemory → Search
+withTree s i e =
+    record {
+      trees = set (s .trees) i e;
+      «tree_count» = s .«tree_count»;
+      «goal_keys» = s .«goal_keys»;
+      «goal_count» = s .«goal_count»;
+      «best_solution» = s .«best_solution»;
+      exhausted = s .exhausted;
+    }
+
+abbrev pub entryOf : ℕ → TreeMemory
+entryOf i = record { tree = i; «last_known_closed_len» = Never; solution = Unsolved }
+
+abbrev pub withEntry : Search → ℕ → Search
+withEntry s t =
+    record {
+      trees = set (s .trees) (s .«tree_count») (entryOf t);
+      «tree_count» = s .«tree_count» + 1;
+      «goal_keys» = s .«goal_keys»;
+      «goal_count» = s .«goal_count»;
+      «best_solution» = s .«best_solution»;
+      exhausted = s .exhausted;
+    }
+
+abbrev pub withGoal : Search → ℕ → Search
+withGoal s v =
+    record {
+      trees = s .trees;
+      «tree_count» = s .«tree_count»;
+      «goal_keys» = set (s .«goal_keys») (s .«goal_count») v;
+      «goal_count» = s .«goal_count» + 1;
+      «best_solution» = s .«best_solution»;
+      exhausted = s .exhausted;
+    }
+
+abbrev pub withKnown : Search → ℕ → ℕ → Search
+withKnown s i n = withTree s i (record { tree = entry s i .tree; «last_known_closed_len» = Len n; solution = entry s i .solution })
+
+abbrev pub withSolution : Search → ℕ → ℕ → Search
+withSolution s i n =
+    withTree s i (record { tree = entry s i .tree; «last_known_closed_len» = entry s i .«last_known_closed_len»; solution = At n })
+
+abbrev pub withBest : Search → ℕ → ℕ → Search
+withBest s i n =
+    record {
+      trees = s .trees;
+      «tree_count» = s .«tree_count»;
+      «goal_keys» = s .«goal_keys»;
+      «goal_count» = s .«goal_count»;
+      «best_solution» = Best i n;
+      exhausted = s .exhausted;
+    }
+
 -- ---- 1. "If the closed count, counted from the closed words, is not the remembered one, the cheapest closed wanted motif, first in the
 -- list on ties, is the find"
 
@@ -223,9 +279,6 @@ seek (t ∷ ts) v i = elim (eqb (t .start) v) [ true ↦ some i | false ↦ seek
 pub record Planted : Type 0 where
   pub trees : List Tree
   pub entries : List TreeMemory
-
-abbrev pub entryOf : ℕ → TreeMemory
-entryOf i = record { tree = i; «last_known_closed_len» = Never; solution = Unsolved }
 
 -- "Starts without a start cost are skipped. Each other start makes one entry, doubles too, and one tree per start motif is shared. New
 -- trees take the next slots in list order."

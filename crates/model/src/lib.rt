@@ -1,5 +1,8 @@
 // The types that cross crates. What they mean stands in specs/: a definition gives each refusal and each status
 // document 01's number and values, and the promises of the calls use that definition.
+ghost use mathlib.Core.Path.{_≡_};
+ghost use Prim.Native.Nat.{_<_};
+ghost use Rattle.model.specs.Search.{emptySearch, withEntry, withGoal, withKnown, withSolution, withBest, withExhausted};
 
 // Returned instead of an answer; specs/Answers.antt numbers them.
 pub enum Refusal {
@@ -54,6 +57,107 @@ pub struct Search {
     pub goal_count: usize,
     pub best_solution: BestSolution,
     pub exhausted: bool,
+}
+
+// A search goes in by value and comes back changed.
+impl Search {
+    // No entries, no goals, nothing held, not finished.
+    pub fn empty() -> Search
+        ensures { λ r. ⌜ r ≡ emptySearch ⌝ }
+    {
+        Search {
+            trees: [TreeMemory {
+                tree: 0,
+                last_known_closed_len: KnownLen::Never,
+                solution: Solution::Unsolved,
+            }; 64],
+            tree_count: 0,
+            goal_keys: [0; 64],
+            goal_count: 0,
+            best_solution: BestSolution::NoBest,
+            exhausted: false,
+        }
+    }
+
+    // One entry more, of the tree in a slot.
+    pub fn with_entry(mut self, tree: usize) -> Search
+        requires { ⌜ self .«tree_count» < 64 ⌝ }
+        ensures { λ r. ⌜ r ≡ withEntry self tree ⌝ }
+    {
+        let i = self.tree_count;
+        self.trees[i] = TreeMemory {
+            tree,
+            last_known_closed_len: KnownLen::Never,
+            solution: Solution::Unsolved,
+        };
+        self.tree_count = i + 1;
+        self
+    }
+
+    // One goal more.
+    pub fn with_goal(mut self, vertex: u32) -> Search
+        requires { ⌜ self .«goal_count» < 64 ⌝ }
+        ensures { λ r. ⌜ r ≡ withGoal self vertex ⌝ }
+    {
+        let i = self.goal_count;
+        self.goal_keys[i] = vertex;
+        self.goal_count = i + 1;
+        self
+    }
+
+    // A tree's closed count remembered.
+    pub fn with_known_len(mut self, entry: usize, len: usize) -> Search
+        requires { ⌜ entry < 64 ⌝ }
+        ensures { λ r. ⌜ r ≡ withKnown self entry len ⌝ }
+    {
+        let memory = self.trees[entry];
+        let solution = memory.solution;
+        self.trees[entry] = TreeMemory {
+            tree: memory.tree,
+            last_known_closed_len: KnownLen::Len(len),
+            solution,
+        };
+        self
+    }
+
+    // A find held by an entry.
+    pub fn with_solution(mut self, entry: usize, node: u32) -> Search
+        requires { ⌜ entry < 64 ⌝ }
+        ensures { λ r. ⌜ r ≡ withSolution self entry node ⌝ }
+    {
+        let memory = self.trees[entry];
+        let last_known_closed_len = memory.last_known_closed_len;
+        self.trees[entry] = TreeMemory {
+            tree: memory.tree,
+            last_known_closed_len,
+            solution: Solution::At(node),
+        };
+        self
+    }
+
+    // A find that is the best.
+    pub fn with_best(self, entry: usize, node: u32) -> Search
+        ensures { λ r. ⌜ r ≡ withBest self entry node ⌝ }
+    {
+        let trees = self.trees;
+        let goal_keys = self.goal_keys;
+        Search {
+            trees,
+            tree_count: self.tree_count,
+            goal_keys,
+            goal_count: self.goal_count,
+            best_solution: BestSolution::Best { entry, node },
+            exhausted: self.exhausted,
+        }
+    }
+
+    // The finished mark.
+    pub fn with_exhausted(mut self, exhausted: bool) -> Search
+        ensures { λ r. ⌜ r ≡ withExhausted self exhausted ⌝ }
+    {
+        self.exhausted = exhausted;
+        self
+    }
 }
 
 pub enum SearchStatus {

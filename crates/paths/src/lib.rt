@@ -1,0 +1,46 @@
+// The path from a tree's root to a node: the Rust's `Path`, of which `backtrack` is ported.
+use layout::wide;
+ghost use mathlib.Core.Path.{_≡_};
+ghost use lib.ListN.{length};
+ghost use Rattle.model.specs.Path.{movesOf};
+ghost use Rattle.paths.specs.Path.{nodesOf, Hung, CanBacktrack, Backtracks};
+
+// How many edges lead from the root to a node.
+pub fn moves(tree: &[u32], node: usize) -> usize
+    requires { ⌜ Hung (now tree) node ⌝ }
+    ensures { λ r. ⌜ r ≡ movesOf (nodesOf (now (tree .entry))) node ⌝ }
+{
+    let mut moves = 0;
+    let mut at = node;
+    while 0 < at {
+        at = wide(layout::node_word(tree, at, layout::NODE_PARENT));
+        moves += 1;
+    }
+    moves
+}
+
+// Writes the words of the path to a node, and answers how many they are. The parent's path comes first; in a backward tree it
+// stands two words further on, since the path runs from the node to the root.
+pub fn backtrack(tree: &[u32], direction: u32, node: usize, path: &mut [u32]) -> usize
+    requires { ⌜ CanBacktrack (now tree) node (length (now path)) ⌝ }
+    ensures { λ r. ⌜ Backtracks (now (tree .entry)) direction node (now (path .entry)) r (now (path .exit)) ⌝ }
+{
+    let vertex = layout::node_word(tree, node, layout::NODE_VERTEX);
+    if node == 0 {
+        path[0] = vertex;
+        return 1;
+    }
+    let parent = wide(layout::node_word(tree, node, layout::NODE_PARENT));
+    let edge = layout::node_word(tree, node, layout::NODE_EDGE);
+    if direction == 0 {
+        let written = backtrack(tree, direction, parent, path);
+        path[written] = edge;
+        path[written + 1] = vertex;
+        return written + 2;
+    }
+    let end = path.len();
+    let written = backtrack(tree, direction, parent, &mut path[2..end]);
+    path[0] = vertex;
+    path[1] = edge;
+    written + 2
+}
