@@ -1,0 +1,9 @@
+-- Laws that belong to no one function.
+pub mod Slots
+pub mod Arrays
+pub mod Lists
+pub mod Costs
+pub mod Fits
+pub mod Goals
+pub mod Entries
+pub mod Valid

@@ -1,0 +1,59 @@
+-- What the functions on a search record and the words of its cache ask for.
+-- Assumes nothing.
+use mathlib.Core.Path.{_≡_}
+use mathlib.Core.List.{List}
+use Prim.Native.Nat.{ℕ, _<_, _≤_}
+use lib.ListN.{length, getD}
+use Rattle.model.specs.declared.Solution.the-variants.{At}
+use Rattle.model.specs.declared.BestSolution.the-variants.{Best}
+use Rattle.model.specs.declared.TreeMemory.{TreeMemory}
+use Rattle.model.specs.declared.Search.{Search}
+use Rattle.model.specs.Tree.{Tree}
+use Rattle.model.specs.Sound.{tree}
+use Rattle.model.specs.Search.{entry}
+use Rattle.layout.specs.Layout.{nodeAt}
+use Rattle.layout.specs.Read.{readCache}
+use Rattle.tree.specs.Tree.{Formed, HasVertex}
+use Rattle.sound.specs.Facts.{SoundWords}
+use Rattle.grow.specs.Grow.{InUse}
+
+-- node n is one of the tree in slot i
+pub record HasNode (ws : List ℕ) (i n : ℕ) : Type 0 where
+  pub used : InUse ws i
+  pub node : n < length (tree (readCache ws .trees) i .nodes)
+
+-- the nodes of a tree's words are of its vertices
+pub record HasVertices (l : ℕ) (t : List ℕ) : Type 0 where
+  pub formed : Formed l t
+  pub vertices : (i : ℕ) → i < getD t 1 0 → HasVertex l t (getD t (nodeAt i) 0)
+
+-- the counts of a record are within its arrays
+pub record Listed (s : Search) : Type 0 where
+  pub trees : length (s .trees) ≡ 64
+  pub entries : s .«tree_count» ≤ 64
+  pub keys : length (s .«goal_keys») ≡ 64
+  pub goals : s .«goal_count» ≤ 64
+
+-- the solution that an entry holds is a node of its tree, one of ts
+pub record Holds (ts : List Tree) (e : TreeMemory) : Type 0 where
+  pub slot : e .tree < length ts
+  pub node : (n : ℕ) → e .solution ≡ At n → n < length (tree ts (e .tree) .nodes)
+
+abbrev pub CanJudge : List ℕ → TreeMemory → Type 0
+CanJudge ws e = SoundWords ws × Holds (readCache ws .trees) e
+
+-- the entries of a record are in order
+pub record Entered (ws : List ℕ) (s : Search) : Type 0 where
+  pub sound : SoundWords ws
+  pub listed : Listed s
+  pub held : (i : ℕ) → i < s .«tree_count» → Holds (readCache ws .trees) (entry s i)
+
+-- a record whose entries, goals and nodes are those of m vertices and the trees ts
+pub record Fits (m : ℕ) (ts : List Tree) (s : Search) : Type 0 where
+  pub listed : Listed s
+  pub goals : (i : ℕ) → i < s .«goal_count» → getD (s .«goal_keys») i 0 < m
+  pub held : (i : ℕ) → i < s .«tree_count» → Holds ts (entry s i)
+  pub best : (i n : ℕ) → s .«best_solution» ≡ Best i n → (i < s .«tree_count») × (n < length (tree ts (entry s i .tree) .nodes))
+
+abbrev pub FitsWords : List ℕ → Search → Type 0
+FitsWords ws s = Fits (getD ws 1 0) (readCache ws .trees) s

@@ -1,0 +1,286 @@
+// Whether a search record is one of a cache's: refusal 8. The Rust's `Memory` holds its trees and paths, ours names them by number.
+use grow::contains;
+use grow::slot_of;
+use layout::wide;
+use model::BestSolution;
+use model::CostBound;
+use model::KnownLen;
+use model::Search;
+use model::Solution;
+use model::TreeMemory;
+use tree::partial_keyed_closed_set::ClosedStatus;
+use tree::partial_keyed_closed_set::status;
+ghost use mathlib.Core.Path.{_≡_};
+ghost use mathlib.Core.Bool.{_&&_, _||_, not};
+ghost use Prim.Native.Nat.{_<_};
+ghost use lib.ListN.{getD};
+ghost use Rattle.model.specs.Lists.{allb, allBelow};
+ghost use Rattle.model.specs.Tree.{evaluation};
+ghost use Rattle.model.specs.Sound.{tree};
+ghost use Rattle.model.specs.Search.{goals, entries, bound};
+ghost use Rattle.model.specs.Valid.{valid, listTests, knownWithin, closesGoal, entryTests, everyb, bestCloses, heldCost, leastHeld, lesser, sameCost, isHeld, bestHeld};
+ghost use Rattle.layout.specs.Read.{readCache};
+ghost use Rattle.tree.specs.Tree.{treeOf};
+ghost use Rattle.sound.specs.Facts.{SoundWords};
+ghost use Rattle.grow.specs.Grow.{InUse};
+ghost use Rattle.memory.specs.Memory.{Listed, Entered, FitsWords, HasNode, HasVertices, CanJudge};
+
+// 01's limit of entries, and of goals.
+pub const MAX_ENTRIES: usize = 64;
+
+// Whether a record is not strange.
+pub fn is_valid(words: &[u32], search: Search) -> bool
+    requires { ⌜ SoundWords (now words) ⌝ }
+    ensures { λ r. ⌜ r ≡ valid (readCache (now (words .entry)) .domain) (readCache (now (words .entry)) .trees) search ⌝ }
+{
+    if !lists_are_valid(words, search) {
+        return false;
+    }
+    if !entries_are_valid(words, search) {
+        return false;
+    }
+    if !best_is_valid(words, search) {
+        return false;
+    }
+    let best = cost_bound(words, search);
+    let least = least_held(words, search);
+    if !is_same(best, least) {
+        return false;
+    }
+    is_answered(search)
+}
+
+// The counts, and the goals.
+fn lists_are_valid(words: &[u32], search: Search) -> bool
+    requires { ⌜ SoundWords (now words) ⌝ }
+    ensures { λ r. ⌜ r ≡ (allb (listTests search) && allBelow (getD (now (words .entry)) 1 0) (goals search)) ⌝ }
+{
+    if MAX_ENTRIES < search.tree_count {
+        return false;
+    }
+    if MAX_ENTRIES < search.goal_count {
+        return false;
+    }
+    let keys = search.goal_keys;
+    let count = search.goal_count;
+    are_vertices(&keys[0..count], layout::header(words, layout::VERTICES))
+}
+
+// Whether each number of a list is below the count of vertices.
+pub fn are_vertices(list: &[u32], vertices: usize) -> bool
+    ensures { λ r. ⌜ r ≡ allBelow vertices (now (list .entry)) ⌝ }
+{
+    let mut i = 0;
+    while i < list.len() {
+        if vertices <= wide(list[i]) {
+            return false;
+        }
+        i += 1;
+    }
+    true
+}
+
+fn entries_are_valid(words: &[u32], search: Search) -> bool
+    requires { ⌜ SoundWords (now words) × Listed search ⌝ }
+    ensures { λ r. ⌜ r ≡ everyb (λ e. allb (entryTests (readCache (now (words .entry)) .domain) (readCache (now (words .entry)) .trees) (goals search) e)) (entries search) ⌝ }
+{
+    let keys = search.goal_keys;
+    let count = search.goal_count;
+    let mut i = 0;
+    while i < search.tree_count {
+        let memory = search.trees[i];
+        if !entry_is_valid(words, memory, &keys[0..count]) {
+            return false;
+        }
+        i += 1;
+    }
+    true
+}
+
+fn entry_is_valid(words: &[u32], memory: TreeMemory, goals: &[u32]) -> bool
+    requires { ⌜ SoundWords (now words) ⌝ }
+    ensures { λ r. ⌜ r ≡ allb (entryTests (readCache (now (words .entry)) .domain) (readCache (now (words .entry)) .trees) (now (goals .entry)) memory) ⌝ }
+{
+    if layout::header(words, layout::TREES) <= memory.tree {
+        return false;
+    }
+    let known = memory.last_known_closed_len;
+    if !is_within(words, known) {
+        return false;
+    }
+    let solution = memory.solution;
+    match solution {
+        Solution::Unsolved => true,
+        Solution::At(node) => closes_goal(words, memory.tree, goals, node),
+    }
+}
+
+fn is_within(words: &[u32], known: KnownLen) -> bool
+    requires { ⌜ SoundWords (now words) ⌝ }
+    ensures { λ r. ⌜ r ≡ knownWithin (readCache (now (words .entry)) .domain) known ⌝ }
+{
+    match known {
+        KnownLen::Never => true,
+        KnownLen::Len(n) => n <= layout::header(words, layout::VERTICES),
+    }
+}
+
+// Whether a node is the closed node of a goal, in the tree of a slot.
+fn closes_goal(words: &[u32], slot: usize, goals: &[u32], node: u32) -> bool
+    requires { ⌜ InUse (now words) slot ⌝ }
+    ensures { λ r. ⌜ r ≡ closesGoal (now (goals .entry)) (tree (readCache (now (words .entry)) .trees) slot) node ⌝ }
+{
+    let s = slot_of(words, slot);
+    let at = s.at;
+    let end = s.end;
+    is_closed_goal(&words[at..end], s.edges, goals, node)
+}
+
+fn is_closed_goal(tree: &[u32], edges: usize, goals: &[u32], node: u32) -> bool
+    requires { ⌜ HasVertices edges (now tree) ⌝ }
+    ensures { λ r. ⌜ r ≡ closesGoal (now (goals .entry)) (treeOf edges (now (tree .entry))) node ⌝ }
+{
+    if tree[layout::NODES] <= node {
+        return false;
+    }
+    let vertex = layout::node_word(tree, wide(node), layout::NODE_VERTEX);
+    if !contains(goals, vertex) {
+        return false;
+    }
+    match status(tree, edges, wide(vertex)) {
+        ClosedStatus::Open => false,
+        ClosedStatus::Closed(closer) => closer == node,
+    }
+}
+
+fn best_is_valid(words: &[u32], search: Search) -> bool
+    requires { ⌜ Entered (now words) search ⌝ }
+    ensures { λ r. ⌜ r ≡ bestCloses (readCache (now (words .entry)) .trees) search (search .«best_solution») ⌝ }
+{
+    let best = search.best_solution;
+    match best {
+        BestSolution::NoBest => true,
+        BestSolution::Best { entry, node } => {
+            if search.tree_count <= entry {
+                return false;
+            }
+            let keys = search.goal_keys;
+            let count = search.goal_count;
+            let memory = search.trees[entry];
+            closes_goal(words, memory.tree, &keys[0..count], node)
+        }
+    }
+}
+
+// What the best costs: the bound of an entry's turn.
+pub fn cost_bound(words: &[u32], search: Search) -> CostBound
+    requires { ⌜ SoundWords (now words) × FitsWords (now words) search ⌝ }
+    ensures { λ r. ⌜ r ≡ bound (readCache (now (words .entry)) .domain) (readCache (now (words .entry)) .trees) search ⌝ }
+{
+    let best = search.best_solution;
+    match best {
+        BestSolution::NoBest => CostBound::Unbounded,
+        BestSolution::Best { entry, node } => {
+            let memory = search.trees[entry];
+            CostBound::Bound(solution_cost(words, memory.tree, node))
+        }
+    }
+}
+
+// What the solution at a node is worth.
+pub fn solution_cost(words: &[u32], slot: usize, node: u32) -> u32
+    requires { ⌜ HasNode (now words) slot node ⌝ }
+    ensures { λ r. ⌜ r ≡ evaluation (tree (readCache (now (words .entry)) .trees) slot .nodes) node ⌝ }
+{
+    let s = slot_of(words, slot);
+    let at = s.at;
+    let end = s.end;
+    queue::evaluation(&words[at..end], node)
+}
+
+// What the cheapest of the solutions held costs.
+fn least_held(words: &[u32], search: Search) -> CostBound
+    requires { ⌜ SoundWords (now words) × FitsWords (now words) search ⌝ }
+    ensures { λ r. ⌜ r ≡ leastHeld (readCache (now (words .entry)) .domain) (readCache (now (words .entry)) .trees) (entries search) ⌝ }
+{
+    let mut least = CostBound::Unbounded;
+    let mut i = search.tree_count;
+    while 0 < i {
+        i -= 1;
+        let memory = search.trees[i];
+        let held = held_cost(words, memory);
+        least = lesser_of(held, least);
+    }
+    least
+}
+
+fn held_cost(words: &[u32], memory: TreeMemory) -> CostBound
+    requires { ⌜ CanJudge (now words) memory ⌝ }
+    ensures { λ r. ⌜ r ≡ heldCost (readCache (now (words .entry)) .domain) (tree (readCache (now (words .entry)) .trees) (memory .tree)) (memory .solution) ⌝ }
+{
+    let solution = memory.solution;
+    match solution {
+        Solution::Unsolved => CostBound::Unbounded,
+        Solution::At(node) => CostBound::Bound(solution_cost(words, memory.tree, node)),
+    }
+}
+
+fn lesser_of(a: CostBound, b: CostBound) -> CostBound
+    ensures { λ r. ⌜ r ≡ lesser a b ⌝ }
+{
+    match a {
+        CostBound::Unbounded => b,
+        CostBound::Bound(x) => match b {
+            CostBound::Unbounded => a,
+            CostBound::Bound(y) => {
+                if x <= y {
+                    return a;
+                }
+                b
+            }
+        },
+    }
+}
+
+fn is_same(a: CostBound, b: CostBound) -> bool
+    ensures { λ r. ⌜ r ≡ sameCost a b ⌝ }
+{
+    match a {
+        CostBound::Unbounded => match b {
+            CostBound::Unbounded => true,
+            CostBound::Bound(_) => false,
+        },
+        CostBound::Bound(x) => match b {
+            CostBound::Unbounded => false,
+            CostBound::Bound(y) => x == y,
+        },
+    }
+}
+
+// A finished search with a best has the solution that it answers.
+fn is_answered(search: Search) -> bool
+    requires { ⌜ ((i n : _) → search .«best_solution» ≡ BestSolution.Best i n → i < 64) ⌝ }
+    ensures { λ r. ⌜ r ≡ (not (search .exhausted) || bestHeld search (search .«best_solution»)) ⌝ }
+{
+    if !search.exhausted {
+        return true;
+    }
+    let best = search.best_solution;
+    match best {
+        BestSolution::NoBest => true,
+        BestSolution::Best { entry, node: _ } => {
+            let memory = search.trees[entry];
+            let solution = memory.solution;
+            is_held(solution)
+        }
+    }
+}
+
+fn is_held(solution: Solution) -> bool
+    ensures { λ r. ⌜ r ≡ isHeld solution ⌝ }
+{
+    match solution {
+        Solution::Unsolved => false,
+        Solution::At(_) => true,
+    }
+}

@@ -1,0 +1,11 @@
+-- The laws that the proofs of this crate's functions cite.
+pub mod First
+pub mod LookedUp
+pub mod Entries
+pub mod Found
+pub mod Recorded
+pub mod Turning
+pub mod Fits
+pub mod Grown
+pub mod Round
+pub mod Walked
