@@ -1,0 +1,12 @@
+-- Laws that belong to no one function.
+pub mod Goals
+pub mod Nodes
+pub mod Finished
+pub mod Opened
+pub mod Initialized
+pub mod Stepped
+pub mod Retraced
+pub mod Demand1
+pub mod Histories
+pub mod Demands
+pub mod Determined

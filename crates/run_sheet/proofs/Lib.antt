@@ -1,0 +1,3 @@
+-- Assumes nothing.
+pub mod Within
+pub mod Sizes

@@ -1,0 +1,64 @@
+-- Lines that are put, lists and files that are read are within the slices lent.
+-- Assumes nothing.
+use mathlib.Core.Path.{_≡_}
+use mathlib.Core.Bool.{Bool, true, false, _&&_}
+use mathlib.Core.List.{List, [], _∷_}
+use mathlib.Core.Option.{Option, none, some}
+use Prim.Native.Nat.{ℕ, _+_, _-_, _≤_}
+use native.Mathlib.Omega.{arith}
+use lib.ListN.{length, drop, replicate, length-append}
+use Rattle.text.specs.Bytes.{comma, parted, isOnly}
+use Rattle.sheet.specs.declared.orders.Numbers.{Numbers}
+use Rattle.sheet.specs.declared.orders.Form.{Form}
+use Rattle.sheet.specs.declared.orders.Order.{Order}
+use Rattle.sheet.specs.declared.orders.Form.the-variants.{Forward, Backward}
+use Rattle.sheet.specs.Orders.{handed, listBy, listOf, fieldNumbers, letterF, letterB, orderIf, orderBy, orderFrom, orderOf}
+use Rattle.sheet.specs.Answers.{Puts}
+use Rattle.run_sheet.specs.declared.files.Bytes.{Bytes}
+use Rattle.run_sheet.specs.declared.files.Bytes.the-variants.{Count}
+use Rattle.run_sheet.specs.Sheet.{Listed, Within}
+
+-- a text put at the start ends within the bytes
+pub put-within : {out t left : List ℕ} {r : ℕ} → Puts out 0 t r left → r ≤ length left
+put-within {out} {t} p = rw (p .bytes) (omega (arith, p .end, length-append t (drop (0 + length t) out)))
+
+list-within : (o : Option (List ℕ)) → listBy o .count ≤ length (listBy o .numbers)
+list-within none = omega arith
+list-within (some l) = omega (arith, length-append (handed l) (replicate (65 - length (handed l)) 0))
+
+field-within : (f : List ℕ) → listOf f .count ≤ length (listOf f .numbers)
+unfolding listOf
+field-within f = list-within (fieldNumbers f)
+
+abbrev ListedOrder : Order → Type 0
+ListedOrder o = Listed (o .starts) (o .goals)
+
+none-listed : ListedOrder (orderIf false Forward (listBy none) (listBy none))
+none-listed = record { starts = list-within none; goals = list-within none }
+
+if-listed : (b : Bool) (f : Form) (s g : Numbers) → Listed s g → ListedOrder (orderIf b f s g)
+if-listed true f s g h = h
+if-listed false f s g h = none-listed
+
+by-listed : (f b : Bool) (s g : Numbers) → Listed s g → ListedOrder (orderBy f b s g)
+by-listed true b s g h = if-listed (s .legal && g .legal) Forward s g h
+by-listed false true s g h = if-listed (s .legal && g .legal) Backward s g h
+by-listed false false s g h = none-listed
+
+from-listed : (fs : List (List ℕ)) → ListedOrder (orderFrom fs)
+unfolding orderFrom
+from-listed [] = none-listed
+from-listed (d ∷ []) = none-listed
+from-listed (d ∷ s ∷ []) = none-listed
+from-listed (d ∷ s ∷ g ∷ []) =
+    by-listed (isOnly letterF d) (isOnly letterB d) (listOf s) (listOf g) (record { starts = field-within s; goals = field-within g })
+from-listed (d ∷ s ∷ g ∷ f ∷ fs) = none-listed
+
+-- the lists of an order that was read
+pub order-listed : (l : List ℕ) → Listed (orderOf l .starts) (orderOf l .goals)
+unfolding orderOf
+order-listed l = from-listed (parted comma l)
+
+-- the bytes of a file that was read
+pub count-within : (b : Bytes) (n : ℕ) (space : List ℕ) → Within b space → b ≡ Count n → n ≤ length space
+count-within b n space h e = rw e at h

@@ -1,0 +1,61 @@
+-- `put_driven` meets its contract. A path that was shown is within its slice.
+-- Assumes nothing.
+use borrow.Author.Needs.{needs}
+use native.Mathlib.Omega.{arith}
+use Rattle.run_sheet.proofs.Within.{put-within}
+use Rattle.run_sheet.proofs.Sizes.{path-fits}
+use Rattle.run_sheet.proofs.order.put_driven.Statement.{statement}
+use Rattle.run_sheet.proofs.order.put_driven.Tie as tie
+
+mul-n : tie.Need-mul-n
+mul-n c = omega (arith, path-fits _ _ _ _ _ _ (c .before .before .before .before .retrace .ensures) (c .before .moves .given .1))
+
+add-n : tie.Need-add-n
+add-n c = omega (arith, path-fits _ _ _ _ _ _ (c .before .before .before .before .retrace .ensures) (c .before .moves .given .1))
+
+part-put-line-end-2 : tie.Need-part-put-line-end-2
+part-put-line-end-2 c = omega (arith, path-fits _ _ _ _ _ _ (c .before .before .before .before .before .before .retrace .ensures) (c .before .before .before .moves .given .1))
+
+put-line-requires-2 : tie.Need-put-line-requires-2
+put-line-requires-2 c κs =
+    let a = c .before .before .before .before .before .before .before .before .before .before .before .before .before .before in
+    record {
+      order = omega (arith, a .pre .0 .order);
+      waits = a .pre .1 .waits;
+      tickets = a .pre .1 .tickets;
+      room = omega (arith, a .pre .0 .room, path-fits _ _ _ _ _ _ (c .before .before .before .before .before .before .before .retrace .ensures) (c .before .before .before .before .moves .given .1));
+    }
+
+returns : tie.Need-returns
+returns c = put-within (c .before .before .put-line .ensures)
+
+returns-3 : tie.Need-returns-3
+returns-3 c = put-within (c .before .before .put-line2 .ensures)
+
+pub put-driven-spec : {M : Type 1} → statement M
+put-driven-spec =
+    tie.close
+    (tie.spec
+    (λ c. search needs)
+    (λ c. search needs)
+    (λ c. search needs)
+    (λ c. search needs)
+    (λ c κs. search needs)
+    (λ c. search needs)
+    returns
+    (λ c. search needs)
+    (λ c κs. search needs)
+    (λ c. search needs)
+    (λ c κs. search needs)
+    (λ c κs. search needs)
+    (λ c. search needs)
+    mul-n
+    add-n
+    (λ c. search needs)
+    (λ c. search needs)
+    part-put-line-end-2
+    put-line-requires-2
+    (λ c. search needs)
+    (λ c. search needs)
+    (λ c. search needs)
+    returns-3)

@@ -1,0 +1,193 @@
+// One order: its search is opened on the cache of its direction and stepped until it answers, and its line is put.
+use model::InitializeAnswer;
+use model::Refusal;
+use model::RetraceAnswer;
+use model::Search;
+use model::SearchStatus;
+use model::StepAnswer;
+use sheet::answers::Answer;
+use sheet::answers::Line;
+use sheet::answers::put_line;
+use sheet::orders::Form;
+use sheet::orders::Numbers;
+use sheet::orders::read_order;
+ghost use mathlib.Core.Path.{_≡_};
+ghost use Prim.Native.Nat.{_≤_};
+ghost use lib.ListN.{length};
+ghost use Rattle.model.specs.Answers.{number as Answers·number};
+ghost use Rattle.run_sheet.specs.Sheet.{CanPut, Listed, Counted};
+
+// One step more than a search of 64 trees and 2,048 edges waits: 1 + 64 × (1 + 2,048) waits, and then its answer.
+const MAX_STEPS: usize = 131138;
+
+// The words of a path of 1,023 moves, the most there are among 1,024 vertices.
+const MAX_PATH: usize = 2047;
+
+// What a step answered.
+enum Outcome {
+    Waiting,
+    Over(Answer),
+}
+
+// An order that was stepped to its end.
+struct Driven {
+    answer: Answer,
+    waits: usize,
+    tickets: usize,
+    search: Search,
+}
+
+// Puts the line of an order, which is given without its LF, and answers how many bytes it has.
+pub fn put_order(
+    forward: &mut [u32],
+    backward: &mut [u32],
+    order: usize,
+    line: &[u8],
+    out: &mut [u8],
+) -> usize
+    requires { ⌜ CanPut order (now out) ⌝ }
+    ensures { λ r. ⌜ r ≤ length (now (out .exit)) ⌝ }
+{
+    let read = read_order(line);
+    let starts = read.starts;
+    let goals = read.goals;
+    let form = read.form;
+    match form {
+        Form::Forward => put_search(forward, order, starts, goals, out),
+        Form::Backward => put_search(backward, order, starts, goals, out),
+        Form::Illegal => put_refusal(out, order, 1),
+    }
+}
+
+// Puts the line of an order that is refused.
+pub fn put_refusal(out: &mut [u8], order: usize, number: u32) -> usize
+    requires { ⌜ CanPut order (now out) ⌝ }
+    ensures { λ r. ⌜ r ≤ length (now (out .exit)) ⌝ }
+{
+    let line = Line {
+        order,
+        answer: Answer::Refused(number),
+        waits: 0,
+        tickets: 0,
+    };
+    let path = [0u32; 1];
+    put_line(out, line, &path[0..0])
+}
+
+// The order is one of legal form, and the words are those of its direction.
+fn put_search(
+    words: &mut [u32],
+    order: usize,
+    starts: Numbers,
+    goals: Numbers,
+    out: &mut [u8],
+) -> usize
+    requires { ⌜ CanPut order (now out) × Listed starts goals ⌝ }
+    ensures { λ r. ⌜ r ≤ length (now (out .exit)) ⌝ }
+{
+    let from = starts.numbers;
+    let from_count = starts.count;
+    let to = goals.numbers;
+    let to_count = goals.count;
+    let opened = dijkstra::initialize(words, &from[0..from_count], &to[0..to_count]);
+    let answer = opened.answer;
+    match answer {
+        InitializeAnswer::Refused { refusal, line: _ } => put_refusal(out, order, number(refusal)),
+        InitializeAnswer::Initialized => {
+            let search = opened.search;
+            let driven = drive(words, search);
+            put_driven(words, order, driven, out)
+        }
+    }
+}
+
+// Steps a search until its answer is not waiting. The count falls so that the loop ends whatever is answered; a search that was opened
+// answers before it is used up.
+fn drive(words: &mut [u32], search: Search) -> Driven
+    ensures { λ r. ⌜ Counted r ⌝ }
+{
+    let mut next = search;
+    let mut waits: usize = 0;
+    let mut tickets: usize = 0;
+    let mut left = MAX_STEPS;
+    while 0 < left {
+        let stepped = dijkstra::step(words, next);
+        next = stepped.search;
+        tickets += stepped.tickets;
+        let answer = stepped.answer;
+        if let Outcome::Over(over) = outcome_of(answer) {
+            return Driven {
+                answer: over,
+                waits,
+                tickets,
+                search: next,
+            };
+        }
+        waits += 1;
+        left -= 1;
+    }
+    Driven {
+        answer: Answer::Refused(8),
+        waits,
+        tickets,
+        search: next,
+    }
+}
+
+fn outcome_of(answer: StepAnswer) -> Outcome {
+    match answer {
+        StepAnswer::Refused { refusal, line: _ } => Outcome::Over(Answer::Refused(number(refusal))),
+        StepAnswer::Status(status) => match status {
+            SearchStatus::Incomplete => Outcome::Waiting,
+            SearchStatus::Solved {
+                total_cost,
+                moves: _,
+            } => Outcome::Over(Answer::Solved(total_cost)),
+            SearchStatus::Impossible => Outcome::Over(Answer::Impossible),
+        },
+    }
+}
+
+// A solved order's line shows its path.
+fn put_driven(words: &[u32], order: usize, driven: Driven, out: &mut [u8]) -> usize
+    requires { ⌜ CanPut order (now out) × Counted driven ⌝ }
+    ensures { λ r. ⌜ r ≤ length (now (out .exit)) ⌝ }
+{
+    let answer = driven.answer;
+    let search = driven.search;
+    let line = Line {
+        order,
+        answer,
+        waits: driven.waits,
+        tickets: driven.tickets,
+    };
+    let mut path = [0u32; MAX_PATH];
+    let Answer::Solved(_) = answer else {
+        return put_line(out, line, &path[0..0]);
+    };
+    match dijkstra::retrace(words, search, &mut path) {
+        RetraceAnswer::Refused { refusal, line: _ } => put_refusal(out, order, number(refusal)),
+        RetraceAnswer::Moves(moves) => {
+            let n = 1 + 2 * moves;
+            put_line(out, line, &path[0..n])
+        }
+    }
+}
+
+// 01's numbers.
+pub fn number(refusal: Refusal) -> u32
+    ensures { λ r. ⌜ r ≡ Answers·number refusal ⌝ }
+{
+    match refusal {
+        Refusal::Malformed => 1,
+        Refusal::OutOfOrder => 2,
+        Refusal::NoSuchVertex => 3,
+        Refusal::OverLimit => 4,
+        Refusal::ShortCache => 5,
+        Refusal::TreesFull => 6,
+        Refusal::Unsound => 7,
+        Refusal::InvalidSearch => 8,
+        Refusal::NotSolved => 9,
+        Refusal::ShortPath => 10,
+    }
+}

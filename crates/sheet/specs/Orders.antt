@@ -1,0 +1,121 @@
+-- The lines of an order sheet that are read.
+-- Assumes nothing.
+use mathlib.Core.Bool.{Bool, true, false, _&&_}
+use mathlib.Core.List.{List, [], _∷_, _++_, map}
+use mathlib.Core.Option.{Option, none, some}
+use Prim.Native.Nat.{ℕ, _+_, _-_, min}
+use lib.Dec.{ltb}
+use lib.ListN.{length, take, replicate, set}
+use Rattle.text.specs.declared.bytes.Number.{Number}
+use Rattle.text.specs.declared.bytes.Number.the-variants as field
+use Rattle.text.specs.Bytes.{comma, parted, isOnly, numberOf}
+use Rattle.sheet.specs.declared.orders.Numbers.{Numbers}
+use Rattle.sheet.specs.declared.orders.Form.{Form}
+use Rattle.sheet.specs.declared.orders.Form.the-variants.{Forward, Backward, Illegal}
+use Rattle.sheet.specs.declared.orders.Order.{Order}
+
+-- the blank, `F` and `B`
+abbrev pub space : ℕ
+space = 32
+
+abbrev pub letterF : ℕ
+letterF = 70
+
+abbrev pub letterB : ℕ
+letterB = 66
+
+-- ---- "lists are parted by single spaces, numbers as in charts"
+
+abbrev pub consIf : Number → Option (List ℕ) → Option (List ℕ)
+consIf field.Illegal o = none
+consIf (field.Of n) none = none
+consIf (field.Of n) (some l) = some (n ∷ l)
+
+unfoldable pub numbersOf : List (List ℕ) → Option (List ℕ)
+unfolding numberOf
+numbersOf [] = some []
+numbersOf (p ∷ ps) = consIf (numberOf p) (numbersOf ps)
+
+-- a list is empty or numbers parted by single spaces
+unfoldable pub fieldNumbers : List ℕ → Option (List ℕ)
+unfolding numbersOf parted
+fieldNumbers [] = some []
+fieldNumbers (x ∷ xs) = numbersOf (parted space (x ∷ xs))
+
+-- as it is handed on: a list of more than 64 is refused 4 and a number past 32 bits 3, so that 65 numbers, and 4294967295, tell as much
+abbrev pub handed : List ℕ → List ℕ
+handed l = take 65 (map (min 4294967295) l)
+
+abbrev pub numbersIn : List ℕ → Numbers
+numbersIn l = record { legal = true; numbers = handed l ++ replicate (65 - length (handed l)) 0; count = length (handed l) }
+
+abbrev pub noNumbers : Numbers
+noNumbers = record { legal = false; numbers = replicate 65 0; count = 0 }
+
+abbrev pub listBy : Option (List ℕ) → Numbers
+listBy none = noNumbers
+listBy (some l) = numbersIn l
+
+unfoldable pub listOf : List ℕ → Numbers
+unfolding fieldNumbers
+listOf f = listBy (fieldNumbers f)
+
+-- ---- "An order is `F` or `B`, starts, wanted": three fields parted by commas
+
+abbrev pub noOrder : Order
+noOrder = record { form = Illegal; starts = noNumbers; goals = noNumbers }
+
+abbrev pub orderIf : Bool → Form → Numbers → Numbers → Order
+orderIf true f s g = record { form = f; starts = s; goals = g }
+orderIf false f s g = noOrder
+
+-- is the first field `F`? is it `B`?
+abbrev pub orderBy : Bool → Bool → Numbers → Numbers → Order
+orderBy true b s g = orderIf (s .legal && g .legal) Forward s g
+orderBy false true s g = orderIf (s .legal && g .legal) Backward s g
+orderBy false false s g = noOrder
+
+unfoldable pub orderFrom : List (List ℕ) → Order
+unfolding listOf
+orderFrom [] = noOrder
+orderFrom (d ∷ []) = noOrder
+orderFrom (d ∷ s ∷ []) = noOrder
+orderFrom (d ∷ s ∷ g ∷ []) = orderBy (isOnly letterF d) (isOnly letterB d) (listOf s) (listOf g)
+orderFrom (d ∷ s ∷ g ∷ f ∷ fs) = noOrder
+
+-- a line's bytes, without LF; "An order without this form is refused 1"
+unfoldable pub orderOf : List ℕ → Order
+unfolding orderFrom parted
+orderOf l = orderFrom (parted comma l)
+
+-- ---- what the functions beneath promise each other
+
+-- is a field `F`? is it `B`?
+abbrev pub formBy : Bool → Bool → Form
+formBy true b = Forward
+formBy false true = Backward
+formBy false false = Illegal
+
+abbrev pub formOf : List ℕ → Form
+formOf d = formBy (isOnly letterF d) (isOnly letterB d)
+
+abbrev pub orderTold : Form → Numbers → Numbers → Order
+orderTold Forward s g = orderIf (s .legal && g .legal) Forward s g
+orderTold Backward s g = orderIf (s .legal && g .legal) Backward s g
+orderTold Illegal s g = noOrder
+
+-- the order of a first field that was read, and the fields behind it
+unfoldable pub orderWith : Form → List (List ℕ) → Order
+unfolding listOf
+orderWith f [] = noOrder
+orderWith f (s ∷ []) = noOrder
+orderWith f (s ∷ g ∷ []) = orderTold f (listOf s) (listOf g)
+orderWith f (s ∷ g ∷ h ∷ hs) = noOrder
+
+-- a list with one number more, if fewer than 65 are kept
+abbrev pub withIf : Bool → Numbers → ℕ → Numbers
+withIf true x n = record { legal = x .legal; numbers = set (x .numbers) (x .count) (min 4294967295 n); count = x .count + 1 }
+withIf false x n = x
+
+abbrev pub withNumber : Numbers → ℕ → Numbers
+withNumber x n = withIf (ltb (x .count) 65) x n
