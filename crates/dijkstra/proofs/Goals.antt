@@ -3,14 +3,15 @@
 use mathlib.Core.Path.{_≡_, sym, ap, ap₂, _∙_}
 use mathlib.Core.Bool.{false}
 use mathlib.Core.List.{List, [], _∷_, _++_, append-assoc, append-nil}
-use Prim.Native.Nat.{ℕ, suc, _+_, _-_, _<_, _≤_}
+use Prim.Native.Nat.{ℕ, suc, _+_, _<_, _≤_}
 use native.Mathlib.Omega.{arith}
-use lib.ListN.{length, getD, set, drop, replicate, drop-of-length-le, length-append}
-use lib.Seq.{drop-cons, set-append-seam}
+use lib.ListN.{length, getD, drop, drop-of-length-le, length-append}
+use lib.Seq.{drop-cons}
 use Rattle.model.specs.declared.BestSolution.the-variants.{NoBest}
 use Rattle.model.specs.declared.TreeMemory.{TreeMemory}
 use Rattle.model.specs.declared.Search.{Search}
 use Rattle.model.specs.Search.{withGoal, newSearch}
+use Rattle.model.proofs.Filled.{set-filled}
 use Rattle.dijkstra.specs.Calls.{withGoals}
 
 module _ (gs : List ℕ) (i : ℕ) (s : Search) {x : Search} (e : withGoals s (drop i gs) ≡ x) where
@@ -22,21 +23,10 @@ module _ (gs : List ℕ) (i : ℕ) (s : Search) {x : Search} (e : withGoals s (d
   pub goals-end : length gs ≤ i → s ≡ x
   goals-end h = sym (ap (withGoals s) (drop-of-length-le gs h)) ∙ e
 
--- one element more in an array that is filled from the front
-pub set-padded : {A : Type 0} (n : ℕ) (l : List A) (x b : A) → length l < n
-    → set (l ++ replicate (n - length l) b) (length l) x ≡ (l ++ (x ∷ [])) ++ replicate (n - length (l ++ (x ∷ []))) b
-set-padded {A} n l x b h =
-    let less : n - length l ≡ suc (n - suc (length l)) = omega (arith, h) in
-    let more : n - suc (length l) ≡ n - length (l ++ (x ∷ [])) = omega (arith, length-append l (x ∷ [])) in
-    ap (λ (k : ℕ). set (l ++ replicate k b) (length l) x) less
-    ∙ set-append-seam l b (replicate (n - suc (length l)) b) x
-    ∙ ap (λ (k : ℕ). l ++ (x ∷ replicate k b)) more
-    ∙ sym (append-assoc l (x ∷ []) (replicate (n - length (l ++ (x ∷ []))) b))
-
 goal-taken : (es : List TreeMemory) (hs : List ℕ) (g : ℕ) → length hs < 64 → withGoal (newSearch es hs) g ≡ newSearch es (hs ++ (g ∷ []))
 goal-taken es hs g h =
     let count : length hs + 1 ≡ length (hs ++ (g ∷ [])) = omega (arith, length-append hs (g ∷ [])) in
-    ap₂ (λ (ks : List ℕ) (n : ℕ). filled es ks n) (set-padded 64 hs g 0 h) count
+    ap₂ (λ (ks : List ℕ) (n : ℕ). filled es ks n) (set-filled 64 hs g 0 h) count
   where
     filled : List TreeMemory → List ℕ → ℕ → Search
     filled es ks n = record { trees = newSearch es [] .trees; «tree_count» = length es; «goal_keys» = ks; «goal_count» = n; «best_solution» = NoBest; exhausted = false }

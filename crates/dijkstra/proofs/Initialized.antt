@@ -6,7 +6,6 @@ use mathlib.Core.Bool.{Bool, true, false, not, _&&_}
 use mathlib.Core.List.{List}
 use mathlib.Core.Option.{Option, none}
 use Prim.Native.Nat.{ℕ, zero, suc, _-_, _<_, _≤_}
-use native.Mathlib.Omega.{arith}
 use borrow.Author.Tests.{le-leb, lt-leb}
 use lib.Dec.{leb, ltb}
 use lib.ListN.{length, getD}
@@ -20,7 +19,6 @@ use Rattle.model.specs.Search.{emptySearch, newSearch, rootsOf, goalsOf}
 use Rattle.model.specs.Calls.{Cache, AfterInitialize, orElse, firstFault, withTrees, initializeFaults, initializeBy, initialize}
 use Rattle.layout.specs.Read.{directionOf, readCache}
 use Rattle.layout.specs.Sound.{soundWordsb}
-use Rattle.sound.specs.Facts.{SoundWords}
 use Rattle.sound.proofs.Facts.{sound-words-at, at-sound-words, trees-length}
 use Rattle.memory.proofs.Slots.{vertices-read}
 use Rattle.plant.specs.Plant.{plantedFor}

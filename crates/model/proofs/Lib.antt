@@ -1,6 +1,7 @@
 pub mod Bools
 pub mod Replies
 pub mod Lists
+pub mod Filled
 pub mod Paths
 pub mod Reversed
 pub mod Choices

@@ -1,51 +1,32 @@
 -- A new tree in the first unused slot: the words stay sound, and the cache that they hold has that tree more.
 -- Assumes nothing.
-use mathlib.Core.Path.{_≡_, refl, sym, ap, _∙_, subst}
+use mathlib.Core.Path.{_≡_, refl, sym, ap, _∙_}
 use mathlib.Core.Logic.{_⊎_, inl, inr, _≢_}
 use mathlib.Core.List.{List, [], _∷_, _++_}
 use Prim.Native.Nat.{ℕ, _+_, _<_, _≤_}
 use native.Mathlib.Decide.{decLt}
 use native.Mathlib.Omega.{arith}
-use lib.ListN.{length, getD, set, take, length-set, length-append, List·getD-append}
-use lib.Seq.{sets, length-sets, getD-set-same, getD-set-other, getD-at, drop-set-lt, ext-getD}
-use Rattle.model.specs.Graph.{Domain, Accepted, edgeNumbers, initialCost}
+use lib.ListN.{length, getD, set, length-set, length-append, List·getD-append}
+use lib.Seq.{sets, length-sets, getD-set-same, getD-set-other, getD-at, ext-getD}
+use Rattle.model.specs.Graph.{Domain, initialCost}
 use Rattle.model.specs.Tree.{Tree, newTree}
 use Rattle.model.specs.Sound.{SoundTrees, noTree, tree}
 use Rattle.model.specs.Calls.{withTrees}
-use Rattle.layout.specs.Layout.{initialAt, edgesAt, placesAt, numbersAt, treeWords, slotsAt, slotAt}
-use Rattle.layout.specs.Words.{firstPlace}
-use Rattle.layout.specs.Read.{directionOf, edgesIn, graphIn, treeIn, treesIn, domainOf, readCache}
+use Rattle.layout.specs.Layout.{treeWords, slotsAt, slotAt}
+use Rattle.layout.specs.Read.{treeIn, treesIn, domainOf, readCache}
 use Rattle.layout.specs.Sound.{slotWords}
 use Rattle.layout.specs.Held.{Held}
 use Rattle.layout.proofs.Edges.{vertex-count-in}
 use Rattle.layout.proofs.Places.{part-at}
 use Rattle.tree.specs.Tree.{Formed}
+use Rattle.tree.proofs.Added.{getD-sets-other}
 use Rattle.tree.proofs.Same.{part-same}
 use Rattle.sound.specs.Facts.{SoundIn, SoundWords}
 use Rattle.sound.proofs.Held.{domain-same, held-same}
 use Rattle.sound.proofs.Slots.{slot-before, slot-length, tree-in-at, trees-in-length}
 use Rattle.plant.specs.Plant.{rootWords, planted, withNew, CanPlant}
-use Rattle.plant.proofs.Stored.{stored-other, stored-at}
+use Rattle.plant.proofs.Stored.{stored-at}
 use Rattle.plant.proofs.NewTree.{new-formed, new-tree}
-
--- ---- the count of trees is no word of the graph
-
-module _ (m l : ℕ) (ws : List ℕ) (n : ℕ) where
-  count-graph : graphIn m l (set ws 4 n) ≡ graphIn m l ws
-  unfolding graphIn
-  count-graph = λ i. record { initial = take m (drop-set-lt initialAt ws 4 n (omega arith) i); edges = edgesIn l (drop-set-lt (edgesAt m) ws 4 n (omega arith) i) }
-
-  count-domain : domainOf m l (set ws 4 n) ≡ domainOf m l ws
-  count-domain = λ i. record { direction = directionOf (getD-set-other ws 4 0 n 0 (omega arith) i); graph = count-graph i }
-
-  count-held : Held m l ws → Held m l (set ws 4 n)
-  count-held h = record {
-    sized = h .sized;
-    fits = rw (length-set ws 4 n) (h .fits);
-    accepted = subst Accepted (sym count-graph) (h .accepted);
-    place = λ v k. getD-set-other ws 4 (placesAt m l + v) n 0 (omega arith) ∙ h .place v k ∙ ap (λ (d : Domain). firstPlace d v) (sym count-domain);
-    number = λ p k. getD-set-other ws 4 (numbersAt m l + p) n 0 (omega arith) ∙ h .number p k ∙ ap (λ (d : Domain). getD (edgeNumbers d) p 0) (sym count-domain);
-  }
 
 module _ (ws : List ℕ) (v : ℕ) (h : CanPlant ws v) where
   abbrev m : ℕ
@@ -83,20 +64,24 @@ module _ (ws : List ℕ) (v : ℕ) (h : CanPlant ws v) where
   left-len : length left ≡ length ws
   left-len = length-set mid 4 (u + 1) ∙ mid-len
 
+  apart : (j : ℕ) → (j < slotAt m l u) ⊎ (slotAt m l u + 7 ≤ j) → (k : ℕ) → k < 7 → j ≢ slotAt m l u + k
+  apart j (inl b) k h e = omega arith
+  apart j (inr b) k h e = omega arith
+
   stays : (j : ℕ) → j ≢ 4 → (j < slotAt m l u) ⊎ (slotAt m l u + 7 ≤ j) → getD left j 0 ≡ getD ws j 0
-  stays j ne b = getD-set-other mid 4 j (u + 1) 0 ne ∙ stored-other root ws (slotAt m l u) j b
+  stays j ne b = getD-set-other mid 4 j (u + 1) 0 ne ∙ getD-sets-other root ws (slotAt m l u) j (apart j b)
 
   count : getD left 4 0 ≡ u + 1
   count = getD-set-same mid 4 (u + 1) 0 (omega (arith, mid-len, fits))
 
-  before : (j : ℕ) → j < slotsAt m l → getD mid j 0 ≡ getD ws j 0
-  before j b = stored-other root ws (slotAt m l u) j (inl (omega arith))
+  before : (j : ℕ) → j ≢ 4 → j < slotsAt m l → getD left j 0 ≡ getD ws j 0
+  before j ne b = stays j ne (inl (omega arith))
 
   domain : domainOf m l left ≡ d
-  domain = count-domain m l mid (u + 1) ∙ domain-same m l ws mid mid-len before (h .sound .held .fits)
+  domain = domain-same m l ws left left-len before (h .sound .held .fits)
 
   held : Held m l left
-  held = count-held m l mid (u + 1) (held-same m l ws mid mid-len before (h .sound .held))
+  held = held-same m l ws left left-len before (h .sound .held)
 
   -- ---- the slots
 

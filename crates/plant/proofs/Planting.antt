@@ -7,15 +7,15 @@ use native.Mathlib.Omega.{arith}
 use lib.ListN.{length, getD, set, take, length-take}
 use lib.Seq.{sets, take-all}
 use borrow.Rule.Slice.PartMut.{putMid, midOf}
-use Rattle.model.specs.Graph.{Domain, Direction, forward, backward, absent, initialBy, initialCost}
+use Rattle.model.specs.Graph.{Domain, initialCost}
 use Rattle.model.specs.Tree.{Tree}
 use Rattle.model.specs.Calls.{Cache, withTrees}
 use Rattle.layout.specs.Layout.{initialAt, treeWords, slotAt}
-use Rattle.layout.specs.Read.{directionOf, graphIn, readCache}
-use Rattle.layout.proofs.Edges.{initial-word}
+use Rattle.layout.specs.Read.{directionOf, readCache}
 use Rattle.sound.specs.Check.{rootCost}
 use Rattle.sound.specs.Facts.{SoundWords}
 use Rattle.sound.proofs.Facts.{trees-length}
+use Rattle.sound.proofs.Nodes.{start-cost}
 use Rattle.plant.specs.Plant.{rootWords, planted, plantedAll, withNew, CanPlantAll, PlantsAll, CanPlant, Plants}
 use Rattle.plant.proofs.Stored.{stored-part}
 use Rattle.plant.proofs.Planted.{fits, root-inside, plants}
@@ -24,12 +24,11 @@ use Rattle.plant.proofs.NewTrees.{take-next, new-append, new-length, so
 -- the cost of a root, as the words have it
 pub root-cost-is : {ws : List ℕ} → SoundWords ws → {v w c : ℕ} → v < getD ws 1 0 → w ≡ v → c ≡ rootCost (directionOf (getD ws 0 0)) (getD ws (initialAt + w) 0)
     → c ≡ initialCost (readCache ws .domain) v
-unfolding initialCost readCache
-root-cost-is {ws} ok {v} {w} b e c = c ∙ ap (λ (x : ℕ). rootCost (directionOf (getD ws 0 0)) (getD ws (initialAt + x) 0)) e ∙ sym (go (directionOf (getD ws 0 0)))
-  where
-    go : (dir : Direction) → initialBy dir (graphIn (getD ws 1 0) (getD ws 2 0) ws) v ≡ rootCost dir (getD ws (initialAt + v) 0)
-    go forward = initial-word (getD ws 1 0) (getD ws 2 0) ws v absent b (omega (arith, ok .held .fits))
-    go backward = refl
+unfolding readCache
+root-cost-is {ws} ok {v} b e c =
+    c
+    ∙ ap (λ (x : ℕ). rootCost (directionOf (getD ws 0 0)) (getD ws (initialAt + x) 0)) e
+    ∙ sym (start-cost (getD ws 1 0) (getD ws 2 0) ws v b (omega (arith, ok .held .fits)))
 
 -- ---- one tree
 

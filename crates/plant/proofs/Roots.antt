@@ -4,16 +4,17 @@ use mathlib.Core.Path.{_≡_, refl, sym, ap, _∙_, subst}
 use mathlib.Core.Bool.{Bool, true, false}
 use mathlib.Core.Option.{Option, none, some}
 use mathlib.Core.List.{List, [], _∷_, _++_, append-nil, append-assoc}
-use Prim.Native.Nat.{ℕ, suc, _+_, _-_, _<_, _≤_}
+use Prim.Native.Nat.{ℕ, suc, _+_, _<_, _≤_}
 use native.Mathlib.Omega.{arith}
 use lib.Dec.{eqb}
 use lib.ListN.{length, getD, set, take, drop, replicate, length-set, length-append, length-take, drop-of-length-le}
-use lib.Seq.{append-snoc, set-append-seam, take-suc-set, take-all}
+use lib.Seq.{take-suc-set, take-all}
 use Rattle.model.specs.declared.TreeMemory.{TreeMemory}
 use Rattle.model.specs.declared.Search.{Search}
 use Rattle.model.specs.Graph.{Domain, absent, initialCost}
 use Rattle.model.specs.Tree.{Tree, newTree}
 use Rattle.model.specs.Search.{blank, entryOf, withEntry, seek, Planted, plant, plantAll, emptySearch, newSearch}
+use Rattle.model.proofs.Filled.{set-filled}
 use Rattle.layout.specs.Read.{readCache}
 use Rattle.sound.proofs.Facts.{trees-length}
 use Rattle.plant.specs.declared.Planned.{Planned}
@@ -45,29 +46,13 @@ plants-snoc d ts (w ∷ vs) v =
 
 entry-more : (es : List TreeMemory) (i : ℕ) → length es < 64 → withEntry (newSearch es []) i ≡ newSearch (es ++ (entryOf i ∷ [])) []
 entry-more es i h = λ x. record {
-  trees = trees x;
+  trees = set-filled 64 es (entryOf i) blank h x;
   «tree_count» = sym (length-append es (entryOf i ∷ [])) x;
   «goal_keys» = emptySearch .«goal_keys»;
   «goal_count» = 0;
   «best_solution» = emptySearch .«best_solution»;
   exhausted = false;
 }
-  where
-    k : ℕ
-    k = 63 - length es
-
-    left : 64 - length es ≡ suc k
-    left = omega arith
-
-    less : k ≡ 64 - length (es ++ (entryOf i ∷ []))
-    less = omega (arith, length-append es (entryOf i ∷ []))
-
-    trees : set (es ++ replicate (64 - length es) blank) (length es) (entryOf i) ≡ (es ++ (entryOf i ∷ [])) ++ replicate (64 - length (es ++ (entryOf i ∷ []))) blank
-    trees =
-        ap (λ (n : ℕ). set (es ++ replicate n blank) (length es) (entryOf i)) left
-        ∙ set-append-seam es blank (replicate k blank) (entryOf i)
-        ∙ sym (append-snoc es (entryOf i) (replicate k blank))
-        ∙ ap (λ (n : ℕ). (es ++ (entryOf i ∷ [])) ++ replicate n blank) less
 
 -- ---- the plan and the table after n roots, where q is the model's planting
 

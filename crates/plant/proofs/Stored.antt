@@ -1,28 +1,21 @@
 -- Words stored in a row: what stands there then, and what stays.
 -- Assumes nothing.
 use mathlib.Core.Path.{_≡_, refl, sym, ap, _∙_}
-use mathlib.Core.Logic.{_⊎_, inl, inr}
-use mathlib.Core.List.{List, [], _∷_, _++_, append-assoc}
-use Prim.Native.Nat.{ℕ, zero, suc, _+_, _<_, _≤_}
+use mathlib.Core.List.{List, _++_, append-assoc}
+use Prim.Native.Nat.{ℕ, _+_, _<_, _≤_}
+use native.Mathlib.Decide.{decLt}
 use native.Mathlib.Omega.{arith}
-use lib.ListN.{length, getD, set, take, drop, length-set, length-take, length-drop, take-append-drop}
-use lib.Seq.{sets, sets-eq, getD-set-same, getD-set-other, drop-append-le, drop-drop}
+use lib.ListN.{length, getD, take, drop, length-take, length-drop, take-append-drop, List·getD-eq-default}
+use lib.Seq.{sets, sets-eq, drop-append-le, drop-drop}
 use borrow.Rule.Slice.PartMut.{putMid, midOf, postOf}
-
-pub stored-other : (vs l : List ℕ) (i j : ℕ) → (j < i) ⊎ (i + length vs ≤ j) → getD (sets l i vs) j 0 ≡ getD l j 0
-stored-other [] l i j h = refl
-stored-other (a ∷ vs) l i j (inl h) = stored-other vs (set l i a) (suc i) j (inl (omega arith)) ∙ getD-set-other l i j a 0 (omega arith)
-stored-other (a ∷ vs) l i j (inr h) = stored-other vs (set l i a) (suc i) j (inr (omega arith)) ∙ getD-set-other l i j a 0 (omega arith)
+use Rattle.tree.proofs.Added.{getD-sets-other, getD-sets-at}
 
 -- in front of zeros
 pub stored-at : (vs l : List ℕ) (i k : ℕ) → i + k < length l → (length vs ≤ k → getD l (i + k) 0 ≡ 0) → getD (sets l i vs) (i + k) 0 ≡ getD vs k 0
-stored-at [] l i k h z = z (omega arith)
-stored-at (a ∷ vs) l i zero h z =
-    let at : i + 0 ≡ i = omega arith in
-    rw at (stored-other vs (set l i a) (suc i) i (inl (omega arith)) ∙ getD-set-same l i a 0 (omega arith))
-stored-at (a ∷ vs) l i (suc k) h z =
-    let at : i + suc k ≡ suc i + k = omega arith in
-    rw at (stored-at vs (set l i a) (suc i) k (omega (arith, length-set l i a)) (λ b. getD-set-other l i (suc i + k) a 0 (omega arith) ∙ rw (← at) (z (omega arith))))
+stored-at vs l i k h z = elim (decLt k (length vs)) [
+  | yes b ↦ getD-sets-at vs l i k (i + k) refl b h
+  | no b ↦ getD-sets-other vs l i (i + k) (λ n nb e. b (omega arith)) ∙ z (omega arith) ∙ sym (List·getD-eq-default vs 0 (let q : length vs ≤ k = omega arith in q))
+]
 
 -- from the start of a part that was lent
 pub stored-part : (a k : ℕ) (l vs : List ℕ) → length vs ≤ k → a + length vs ≤ length l → putMid a k l (sets (midOf a k l) 0 vs) ≡ sets l a vs

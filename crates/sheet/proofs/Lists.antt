@@ -4,12 +4,13 @@ use mathlib.Core.Path.{_≡_, refl, sym, ap, _∙_}
 use mathlib.Core.Bool.{Bool, true}
 use mathlib.Core.List.{List, [], _∷_, _++_, map, map-append, append-nil, append-assoc}
 use mathlib.Core.Option.{Option, none, some}
-use Prim.Native.Nat.{ℕ, suc, _+_, _-_, _<_, _≤_, min}
+use Prim.Native.Nat.{ℕ, _+_, _-_, _<_, _≤_, min}
 use native.Mathlib.Decide.{decLe}
 use native.Mathlib.Omega.{arith}
 use borrow.Author.Tests.{lt-ltb, le-ltb}
 use lib.ListN.{length, take, drop, replicate, set, length-append, length-drop}
-use lib.Seq.{length-take-le, take-all, take-append-le, drop-drop, set-append-seam}
+use lib.Seq.{length-take-le, take-all, take-append-le, drop-drop}
+use Rattle.model.proofs.Filled.{set-filled}
 use Rattle.text.specs.declared.bytes.Number.{Number}
 use Rattle.text.specs.declared.bytes.Number.the-variants as field
 use Rattle.text.specs.Bytes.{place, parted, numberOf}
@@ -30,18 +31,9 @@ kept-more m n h = λ i. record { legal = true; numbers = words i; count = more i
     more : length m + 1 ≡ length (m ++ (min 4294967295 n ∷ []))
     more = sym (length-append m (min 4294967295 n ∷ []))
 
-    unused : replicate {A = ℕ} (65 - length m) 0 ≡ 0 ∷ replicate (64 - length m) 0
-    unused =
-        let one : 65 - length m ≡ suc (64 - length m) = omega arith in
-        ap (λ (k : ℕ). replicate {A = ℕ} k 0) one
-
     words : set (m ++ replicate (65 - length m) 0) (length m) (min 4294967295 n)
         ≡ (m ++ (min 4294967295 n ∷ [])) ++ replicate (65 - length (m ++ (min 4294967295 n ∷ []))) 0
-    words =
-        let fewer : 64 - length m ≡ 65 - length (m ++ (min 4294967295 n ∷ [])) = omega (arith, more) in
-        rw unused (set-append-seam m 0 (replicate (64 - length m) 0) (min 4294967295 n))
-        ∙ sym (append-assoc m (min 4294967295 n ∷ []) (replicate (64 - length m) 0))
-        ∙ ap (λ (k : ℕ). (m ++ (min 4294967295 n ∷ [])) ++ replicate k 0) fewer
+    words = set-filled 65 m (min 4294967295 n) 0 (omega arith)
 
 with-kept : (m : List ℕ) (n : ℕ) → withNumber (kept (take 65 m)) n ≡ kept (take 65 (m ++ (min 4294967295 n ∷ [])))
 with-kept m n = elim (decLe 65 (length m)) [

@@ -2,7 +2,7 @@
 -- where the words before the slots stay.
 -- Assumes nothing.
 use mathlib.Core.Path.{_≡_, refl, sym, ap, _∙_, subst}
-use mathlib.Core.Logic.{_⊎_, inl, inr}
+use mathlib.Core.Logic.{_⊎_, inl, inr, _≢_}
 use mathlib.Core.Bool.{Bool, true}
 use mathlib.Core.List.{List, [], _∷_}
 use Prim.Native.Nat.{ℕ, zero, suc, _+_, _*_, _<_, _≤_}
@@ -154,28 +154,29 @@ edges-same (suc l) ws ws′ f = λ i.
     record { from = f 0 (omega arith) i; to = f 1 (omega arith) i; cost = f 2 (omega arith) i }
     ∷ edges-same l (drop 3 ws) (drop 3 ws′) (λ j h. getD-drop 3 ws′ j 0 ∙ f (3 + j) (omega arith) ∙ sym (getD-drop 3 ws j 0)) i
 
-module _ (m l : ℕ) (ws ws′ : List ℕ) (len : length ws′ ≡ length ws) (same : (j : ℕ) → j < slotsAt m l → getD ws′ j 0 ≡ getD ws j 0) where
+-- the header and the graph's words stay, but for the count of trees in use
+module _ (m l : ℕ) (ws ws′ : List ℕ) (len : length ws′ ≡ length ws) (same : (j : ℕ) → j ≢ 4 → j < slotsAt m l → getD ws′ j 0 ≡ getD ws j 0) where
   graph-same : slotsAt m l ≤ length ws → graphIn m l ws′ ≡ graphIn m l ws
   unfolding graphIn
   graph-same fits = λ i. record { initial = initials i; edges = edges i }
     where
       initials : part initialAt m ws′ ≡ part initialAt m ws
-      initials = part-same initialAt m ws ws′ len (λ j k. same (initialAt + j) (omega arith))
+      initials = part-same initialAt m ws ws′ len (λ j k. same (initialAt + j) (omega arith) (omega arith))
 
       edges : edgesIn l (drop (edgesAt m) ws′) ≡ edgesIn l (drop (edgesAt m) ws)
       edges = edges-same l (drop (edgesAt m) ws) (drop (edgesAt m) ws′) (λ j h.
-          getD-drop (edgesAt m) ws′ j 0 ∙ same (edgesAt m + j) (omega arith) ∙ sym (getD-drop (edgesAt m) ws j 0))
+          getD-drop (edgesAt m) ws′ j 0 ∙ same (edgesAt m + j) (omega arith) (omega arith) ∙ sym (getD-drop (edgesAt m) ws j 0))
 
   pub domain-same : slotsAt m l ≤ length ws → domainOf m l ws′ ≡ domainOf m l ws
-  domain-same fits = λ i. record { direction = directionOf (same 0 (omega arith) i); graph = graph-same fits i }
+  domain-same fits = λ i. record { direction = directionOf (same 0 (omega arith) (omega arith) i); graph = graph-same fits i }
 
   pub held-same : Held m l ws → Held m l ws′
   held-same h = record {
     sized = h .sized;
     fits = omega (arith, len, h .fits);
     accepted = subst Accepted (sym (graph-same (h .fits))) (h .accepted);
-    place = λ v k. same (placesAt m l + v) (omega arith) ∙ h .place v k ∙ ap (λ (d : Domain). firstPlace d v) (sym (domain-same (h .fits)));
-    number = λ p k. same (numbersAt m l + p) (omega arith) ∙ h .number p k ∙ ap (λ (d : Domain). getD (edgeNumbers d) p 0) (sym (domain-same (h .fits)));
+    place = λ v k. same (placesAt m l + v) (omega arith) (omega arith) ∙ h .place v k ∙ ap (λ (d : Domain). firstPlace d v) (sym (domain-same (h .fits)));
+    number = λ p k. same (numbersAt m l + p) (omega arith) (omega arith) ∙ h .number p k ∙ ap (λ (d : Domain). getD (edgeNumbers d) p 0) (sym (domain-same (h .fits)));
   }
 
 -- ---- what is known where the tests of initial costs and edges passed

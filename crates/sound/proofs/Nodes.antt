@@ -47,7 +47,7 @@ pub backward-cost : (n x : ℕ) → (n ≡ 0 → ⊥) → 0 ≡ rootCost (direct
 backward-cost zero x z = absurd (z refl)
 backward-cost (suc n) x z = refl
 
-start-cost : (m l : ℕ) (ws : List ℕ) (v : ℕ) → v < m → initialAt + m ≤ length ws
+pub start-cost : (m l : ℕ) (ws : List ℕ) (v : ℕ) → v < m → initialAt + m ≤ length ws
     → initialCost (domainOf m l ws) v ≡ rootCost (directionOf (getD ws 0 0)) (getD ws (initialAt + v) 0)
 unfolding initialCost
 start-cost m l ws v h fits = go (directionOf (getD ws 0 0))

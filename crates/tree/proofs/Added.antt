@@ -34,13 +34,13 @@ sets-four l i a b c d =
     let three : i + 3 ≡ suc (suc (suc i)) = omega arith in
     rw (one, two, three)
 
-getD-sets-other : (vs l : List ℕ) (i j : ℕ) → ((k : ℕ) → k < length vs → j ≢ i + k) → getD (sets l i vs) j 0 ≡ getD l j 0
+pub getD-sets-other : (vs l : List ℕ) (i j : ℕ) → ((k : ℕ) → k < length vs → j ≢ i + k) → getD (sets l i vs) j 0 ≡ getD l j 0
 getD-sets-other [] l i j h = refl
 getD-sets-other (a ∷ vs) l i j h =
     getD-sets-other vs (set l i a) (suc i) j (λ k kv e. h (suc k) (omega arith) (omega arith))
     ∙ getD-set-other l i j a 0 (λ e. h 0 (omega arith) (omega arith))
 
-getD-sets-at : (vs l : List ℕ) (i k j : ℕ) → j ≡ i + k → k < length vs → j < length l → getD (sets l i vs) j 0 ≡ getD vs k 0
+pub getD-sets-at : (vs l : List ℕ) (i k j : ℕ) → j ≡ i + k → k < length vs → j < length l → getD (sets l i vs) j 0 ≡ getD vs k 0
 getD-sets-at [] l i k j e h f = absurd (omega arith)
 getD-sets-at (a ∷ vs) l i zero j e h f =
     let at : j ≡ i = omega arith in

@@ -44,7 +44,7 @@ returns-4 c =
     let d = h .before .before in
     rw (c .not-opened4 .ensures)
     (start-past _ _ _ (sound (d .before .before)) (d .before .if2 .left) (d .if3 .left) (h .header .ensures)
-      (sym (c .before .before .are-vertices .ensures) ∙ not-true _ (c .before .if4 .taken)))
+    (sym (c .before .before .are-vertices .ensures) ∙ not-true _ (c .before .if4 .taken)))
 
 returns-5 : tie.Need-returns-5
 returns-5 c =
@@ -53,7 +53,7 @@ returns-5 c =
     let d = h .before .before in
     rw (c .not-opened5 .ensures)
     (goal-past _ _ _ (sound (d .before .before)) (d .before .if2 .left) (d .if3 .left) (h .header .ensures) (starts-below b)
-      (sym (c .before .before .are-vertices2 .ensures) ∙ not-true _ (c .before .if5 .taken)))
+    (sym (c .before .before .are-vertices2 .ensures) ∙ not-true _ (c .before .if5 .taken)))
 
 slice-read-if6 : tie.Need-slice-read-if6
 slice-read-if6 c =
@@ -75,7 +75,7 @@ returns-6 c =
     let d = h .before .before in
     let lists = forward-lists (c .before .before .before .before .if6 .taken) _ _ in
     opened _ _ _ (sound (d .before .before)) (d .before .if2 .left) (d .if3 .left) (h .header .ensures) (starts-below b) (goals-below g) _ _
-      (lists .0) (lists .1) _ _ (c .before .before .open-search .ensures)
+    (lists .0) (lists .1) _ _ (c .before .before .open-search .ensures)
 
 open-search-requires-2 : tie.Need-open-search-requires-2
 open-search-requires-2 c κs =
@@ -92,7 +92,7 @@ returns-7 c =
     let d = h .before .before in
     let lists = backward-lists _ (c .before .before .before .before .if6 .left) _ _ in
     opened _ _ _ (sound (d .before .before)) (d .before .if2 .left) (d .if3 .left) (h .header .ensures) (starts-below b) (goals-below g) _ _
-      (lists .0) (lists .1) _ _ (c .before .before .open-search2 .ensures)
+    (lists .0) (lists .1) _ _ (c .before .before .open-search2 .ensures)
 
 pub initialize-spec : {M : Type 1} → statement M
 initialize-spec =

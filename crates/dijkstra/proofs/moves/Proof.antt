@@ -15,7 +15,7 @@ moves-requires c κs = is-hung (c .before .before .before .before .pre) (c .befo
 returns : tie.Need-returns
 returns c =
     moves-are (c .before .before .before .before .before .pre) (c .before .before .before .slot-of .ensures) (c .before .wide .ensures)
-      (c .moves .ensures)
+    (c .moves .ensures)
 
 pub moves-spec : {M : Type 1} → statement M
 moves-spec =

@@ -15,7 +15,7 @@ node-word-requires c κs = cost-word (c .before .before .before .before .pre) (c
 returns : tie.Need-returns
 returns c =
     cost-is (c .before .before .before .before .before .pre) (c .before .before .before .slot-of .ensures) (c .before .wide .ensures)
-      (c .node-word .ensures)
+    (c .node-word .ensures)
 
 pub node-cost-spec : {M : Type 1} → statement M
 node-cost-spec =

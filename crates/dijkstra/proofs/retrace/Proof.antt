@@ -64,7 +64,7 @@ returns-5 c =
     let b = c .before .before .before .before .before in
     let d = b .before .before in
     absurd (is-held _ _ (c .before .before .before .before .before .before .before .before .before .before .before .before .before .before .args .path .now)
-      (sound (d .before .before .before)) (fine (d .before)) (not-false _ (d .if3 .left)) (b .best .given .1) (c .before .enum-told2 .given .1))
+    (sound (d .before .before .before)) (fine (d .before)) (not-false _ (d .if3 .left)) (b .best .given .1) (c .before .enum-told2 .given .1))
 
 retrace-node-requires : tie.Need-retrace-node-requires
 retrace-node-requires c κs =
@@ -76,7 +76,7 @@ returns-6 c =
     let b = c .before .before .before .before .before .before .before .before .before in
     let d = b .before .before in
     path-shown _ _ _ (sound (d .before .before .before)) (fine (d .before)) (not-false _ (d .if3 .left)) (b .best .given .1) _
-      (c .before .before .before .before .before .solution .given .1) (c .before .before .retrace-node .result) _ (c .before .before .retrace-node .ensures)
+    (c .before .before .before .before .before .solution .given .1) (c .before .before .retrace-node .result) _ (c .before .before .retrace-node .ensures)
 
 pub retrace-spec : {M : Type 1} → statement M
 retrace-spec =

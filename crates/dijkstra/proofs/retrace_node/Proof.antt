@@ -24,14 +24,14 @@ backtrack-requires : tie.Need-backtrack-requires
 backtrack-requires c κs =
     let a = c .before .before .before .before .before .before .before .before .before in
     can-backtrack (a .pre) (c .before .before .before .before .slot-of .ensures) (c .before .wide .ensures)
-      (c .before .before .before .before .before .before .moves .ensures) (a .args .path .now) (c .before .before .before .before .before .if1 .left)
+    (c .before .before .before .before .before .before .moves .ensures) (a .args .path .now) (c .before .before .before .before .before .if1 .left)
 
 returns-2 : tie.Need-returns-2
 returns-2 c =
     let b = c .before .before .before .before .before .before .before in
     let a = b .before .before .before .before .before in
     path-written (a .pre) (b .slot-of .ensures) (c .before .before .before .before .wide .ensures) (b .before .before .moves .ensures) _
-      (b .before .if1 .left) _ _ (c .before .before .backtrack .ensures)
+    (b .before .if1 .left) _ _ (c .before .before .backtrack .ensures)
 
 pub retrace-node-spec : {M : Type 1} → statement M
 retrace-node-spec =

@@ -57,7 +57,7 @@ returns-4 c =
     let t = c .before .before .before in
     let a = t .before .before .before in
     walked _ _ (sound (a .before .before .before)) (fine a) (t .before .before .if3 .left) (t .step-trees .result) (t .step-trees .last .0)
-      (t .step-trees .ensures)
+    (t .step-trees .ensures)
 
 pub step-spec : {M : Type 1} → statement M
 step-spec =

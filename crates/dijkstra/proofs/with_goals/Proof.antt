@@ -30,9 +30,13 @@ loop-again c =
     let t = c .before .before .loop-test .taken in
     let e = c .with-goal .ensures in
     let p = c .before .before .before .before .before .args in
-    let i = c .before .before .before .loop .i in
-    (omega (arith, t), (omega (arith, t, v .1 .0, ap (λ (s : Search). s .«goal_count») e),
-      ap (λ (s : Search). withGoals s (drop (i + 1) (p .goals .now))) e ∙ goals-next (p .goals .now) i _ (v .1 .1) t))
+    let i = c .before .before .before .loop .i in (
+      omega (arith, t),
+      (
+        omega (arith, t, v .1 .0, ap (λ (s : Search). s .«goal_count») e),
+        ap (λ (s : Search). withGoals s (drop (i + 1) (p .goals .now))) e ∙ goals-next (p .goals .now) i _ (v .1 .1) t,
+      ),
+    )
 
 returns : tie.Need-returns Inv-loop μ-loop
 returns c = let v = c .before .loop .inv in goals-end _ _ _ (v .1 .1) (c .loop-test .left)
