@@ -1,3 +1,8 @@
--- Assumes nothing.
+-- Laws that belong to no one function.
 pub mod Within
 pub mod Sizes
+pub mod Drives
+pub mod Texts
+pub mod Bounds
+pub mod Driven
+pub mod Right

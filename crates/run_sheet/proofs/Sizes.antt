@@ -3,11 +3,10 @@
 use mathlib.Core.Path.{_≡_, refl, sym, ap, subst, _∙_}
 use mathlib.Core.Bool.{Bool, true, false, not}
 use mathlib.Core.List.{List, [], _∷_}
-use mathlib.Core.Option.{Option, none, some}
 use Prim.Native.Nat.{ℕ, zero, suc, _+_, _*_, _≤_}
 use native.Mathlib.Omega.{arith}
 use borrow.Author.Tests.{ltb-false}
-use lib.Dec.{eqb, ltb}
+use lib.Dec.{ltb}
 use lib.ListN.{length}
 use Rattle.model.specs.declared.CostBound.{CostBound}
 use Rattle.model.specs.declared.KnownLen.{KnownLen}
@@ -19,56 +18,31 @@ use Rattle.model.specs.declared.RetraceAnswer.{RetraceAnswer}
 use Rattle.model.specs.declared.RetraceAnswer.the-variants.{Moves}
 use Rattle.model.specs.Answers.{Reply, answered, refused, retraceReply}
 use Rattle.model.specs.Graph.{Domain}
-use Rattle.model.specs.Tree.{Tree, Going, on, found, over, Growth, taken, node, closedAt, ticketOf, ticket, grow, least}
+use Rattle.model.specs.Tree.{Tree, on}
 use Rattle.model.specs.Search.{grown, turnBy, turn, lookup, Walk, round, rounds, walk, goals, entry, bound, withExhausted}
 use Rattle.model.specs.Sound.{tree}
 use Rattle.model.specs.Valid.{valid}
 use Rattle.model.specs.Calls.{Cache, AfterRetrace, stepIf, stepBy, firstFault, step, shown, shownTree, movesAt, solvedAlready, retraceBy, retrace}
 use Rattle.model.proofs.Valid.{valid-at}
+use Rattle.turn.proofs.Turning.{grow-few}
 use Rattle.layout.specs.Read.{readCache}
 use Rattle.layout.specs.Sound.{soundWordsb}
 use Rattle.dijkstra.specs.Calls.{Stepping, stepSoundIf, retraceIf, Retracing}
 
 -- ---- a step takes at most ten tickets for each of 64 entries
 
-taken-few : (d : Domain) (gs : List ℕ) (b : CostBound) (t : Tree) (k n : ℕ) (c : Bool) → taken d gs b t k n c .tickets ≤ suc k
-unfolding taken
-taken-few d gs b t k n true = omega arith
-taken-few d gs b t k n false = omega arith
-
-ticketOf-few : (d : Domain) (gs : List ℕ) (b : CostBound) (t : Tree) (k : ℕ) (o : Option ℕ) → ticketOf d gs b t k o .tickets ≤ suc k
-unfolding ticketOf
-ticketOf-few d gs b t k none = omega arith
-ticketOf-few d gs b t k (some n) = taken-few d gs b t k n (not (eqb (closedAt (t .closed) ((node (t .nodes) n) .vertex)) 0))
-
-ticket-few : (d : Domain) (gs : List ℕ) (b : CostBound) (t : Tree) (k : ℕ) (x : Going) → ticket d gs b t k x .tickets ≤ suc k
-unfolding ticket
-ticket-few d gs b t k on = ticketOf-few d gs b t k (least (t .nodes) (t .waiting))
-ticket-few d gs b t k (found i) = omega arith
-ticket-few d gs b t k over = omega arith
-
-grow-few : (d : Domain) (gs : List ℕ) (b : CostBound) (j : ℕ) (g : Growth) → grow d gs b j g .tickets ≤ j + g .tickets
-unfolding grow
-grow-few d gs b zero g = omega arith
-grow-few d gs b (suc j) g =
-    let h = ticket d gs b (g .tree) (g .tickets) (g .going) in
-    omega (arith, grow-few d gs b j h, ticket-few d gs b (g .tree) (g .tickets) (g .going))
-
 turnBy-few : (d : Domain) (gs : List ℕ) (b : CostBound) (t : Tree) (known : KnownLen) (f : Solution) → turnBy d gs b t known f .tickets ≤ 10
 unfolding turnBy grown
 turnBy-few d gs b t known Unsolved = omega (arith, grow-few d gs b 10 (record { tree = t; tickets = 0; going = on }))
 turnBy-few d gs b t known (At n) = omega arith
 
-turn-few : (d : Domain) (gs : List ℕ) (b : CostBound) (t : Tree) (known : KnownLen) → turn d gs b t known .tickets ≤ 10
-unfolding turn
-turn-few d gs b t known = turnBy-few d gs b t known (lookup d t gs known)
-
 round-few : (d : Domain) (i : ℕ) (w : Walk) → round d i w .tickets ≤ 10 + w .tickets
-unfolding round
+unfolding round turn
 round-few d i w =
     let s = w .search in
     let e = entry s i in
-    omega (arith, turn-few d (goals s) (bound d (w .trees) s) (tree (w .trees) (e .tree)) (e .«last_known_closed_len»))
+    let t = tree (w .trees) (e .tree) in
+    omega (arith, turnBy-few d (goals s) (bound d (w .trees) s) t (e .«last_known_closed_len») (lookup d t (goals s) (e .«last_known_closed_len»)))
 
 rounds-few : (d : Domain) (k i : ℕ) (w : Walk) → rounds d k i w .tickets ≤ 10 * k + w .tickets
 unfolding rounds

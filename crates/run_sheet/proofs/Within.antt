@@ -55,9 +55,9 @@ from-listed (d ∷ s ∷ g ∷ []) =
 from-listed (d ∷ s ∷ g ∷ f ∷ fs) = none-listed
 
 -- the lists of an order that was read
-pub order-listed : (l : List ℕ) → Listed (orderOf l .starts) (orderOf l .goals)
+pub order-read : (o : Order) (l : List ℕ) → o ≡ orderOf l → Listed (o .starts) (o .goals)
 unfolding orderOf
-order-listed l = from-listed (parted comma l)
+order-read o l e = rw e (from-listed (parted comma l))
 
 -- the bytes of a file that was read
 pub count-within : (b : Bytes) (n : ℕ) (space : List ℕ) → Within b space → b ≡ Count n → n ≤ length space

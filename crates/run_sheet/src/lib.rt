@@ -8,8 +8,12 @@ use order::put_order;
 use order::put_refusal;
 use sheet::answers::put_refused;
 use text::bytes::find;
+ghost use mathlib.Core.Path.{_≡_};
+ghost use mathlib.Core.Bool.{true};
 ghost use Prim.Native.Nat.{_≤_};
 ghost use lib.ListN.{length};
+ghost use Rattle.cache.specs.Open.{Opening};
+ghost use Rattle.run_sheet.specs.Sheet.{CalledBoth};
 
 // The longest file.
 const MAX_BYTES: usize = 65536;
@@ -53,7 +57,9 @@ fn run_in(forward: &mut [u32], backward: &mut [u32], chart: &[u8], orders: &[u8]
 }
 
 // Opens a cache. A refusal is printed.
-fn is_opened(words: &mut [u32], chart: &[u8], direction: u32) -> bool {
+fn is_opened(words: &mut [u32], chart: &[u8], direction: u32) -> bool
+    ensures { λ r. ⌜ (r ≡ true → Opening (now (words .entry)) (now (chart .entry)) direction 16 OpenAnswer.Opened (now (words .exit))) ⌝ }
+{
     match cache::open(words, chart, direction, SLOTS) {
         OpenAnswer::Opened => true,
         OpenAnswer::Refused { refusal, line: _ } => {
@@ -71,7 +77,7 @@ fn print_refused(number: u32) {
 
 // Each line is made in the bytes lent, and printed. A last line without LF is no order, but has a number.
 fn print_orders(forward: &mut [u32], backward: &mut [u32], orders: &[u8], out: &mut [u8])
-    requires { ⌜ (length (now orders) ≤ 65536) × (24576 ≤ length (now out)) ⌝ }
+    requires { ⌜ (length (now orders) ≤ 65536) × ((24576 ≤ length (now out)) × CalledBoth (now forward) (now backward)) ⌝ }
 {
     let mut at = 0;
     let mut order = 0;

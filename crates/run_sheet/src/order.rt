@@ -12,10 +12,13 @@ use sheet::orders::Form;
 use sheet::orders::Numbers;
 use sheet::orders::read_order;
 ghost use mathlib.Core.Path.{_≡_};
-ghost use Prim.Native.Nat.{_≤_};
-ghost use lib.ListN.{length};
-ghost use Rattle.model.specs.Answers.{number as Answers·number};
-ghost use Rattle.run_sheet.specs.Sheet.{CanPut, Listed, Counted};
+ghost use mathlib.Core.Bool.{true};
+ghost use Rattle.model.specs.Answers.{stepReply, number as Answers·number};
+ghost use Rattle.layout.specs.Read.{readCache};
+ghost use Rattle.layout.specs.Sound.{soundWordsb};
+ghost use Rattle.sheet.specs.Answers.{Puts};
+ghost use Rattle.run_sheet.specs.Orders.{progressOf, refusedText, drivenText};
+ghost use Rattle.run_sheet.specs.Sheet.{CanPut, Listed, Counted, Drives, listed, Ran, RanLine, BothSound};
 
 // One step more than a search of 64 trees and 2,048 edges waits: 1 + 64 × (1 + 2,048) waits, and then its answer.
 const MAX_STEPS: usize = 131138;
@@ -24,8 +27,8 @@ const MAX_STEPS: usize = 131138;
 const MAX_PATH: usize = 2047;
 
 // What a step answered.
-enum Outcome {
-    Waiting,
+enum Progress {
+    Waits,
     Over(Answer),
 }
 
@@ -45,8 +48,8 @@ pub fn put_order(
     line: &[u8],
     out: &mut [u8],
 ) -> usize
-    requires { ⌜ CanPut order (now out) ⌝ }
-    ensures { λ r. ⌜ r ≤ length (now (out .exit)) ⌝ }
+    requires { ⌜ CanPut order (now out) × BothSound (now forward) (now backward) ⌝ }
+    ensures { λ r. ⌜ RanLine (now (forward .entry)) (now (backward .entry)) order (now (line .entry)) (now (out .entry)) r (now (forward .exit)) (now (backward .exit)) (now (out .exit)) ⌝ }
 {
     let read = read_order(line);
     let starts = read.starts;
@@ -62,7 +65,7 @@ pub fn put_order(
 // Puts the line of an order that is refused.
 pub fn put_refusal(out: &mut [u8], order: usize, number: u32) -> usize
     requires { ⌜ CanPut order (now out) ⌝ }
-    ensures { λ r. ⌜ r ≤ length (now (out .exit)) ⌝ }
+    ensures { λ r. ⌜ Puts (now (out .entry)) 0 (refusedText order number) r (now (out .exit)) ⌝ }
 {
     let line = Line {
         order,
@@ -82,8 +85,8 @@ fn put_search(
     goals: Numbers,
     out: &mut [u8],
 ) -> usize
-    requires { ⌜ CanPut order (now out) × Listed starts goals ⌝ }
-    ensures { λ r. ⌜ r ≤ length (now (out .exit)) ⌝ }
+    requires { ⌜ CanPut order (now out) × (Listed starts goals × (soundWordsb (now words) ≡ true)) ⌝ }
+    ensures { λ r. ⌜ Ran (now (words .entry)) order (listed starts) (listed goals) (now (out .entry)) r (now (words .exit)) (now (out .exit)) ⌝ }
 {
     let from = starts.numbers;
     let from_count = starts.count;
@@ -104,7 +107,8 @@ fn put_search(
 // Steps a search until its answer is not waiting. The count falls so that the loop ends whatever is answered; a search that was opened
 // answers before it is used up.
 fn drive(words: &mut [u32], search: Search) -> Driven
-    ensures { λ r. ⌜ Counted r ⌝ }
+    requires { ⌜ soundWordsb (now words) ≡ true ⌝ }
+    ensures { λ r. ⌜ Drives (now (words .entry)) search r (now (words .exit)) ⌝ }
 {
     let mut next = search;
     let mut waits: usize = 0;
@@ -115,7 +119,7 @@ fn drive(words: &mut [u32], search: Search) -> Driven
         next = stepped.search;
         tickets += stepped.tickets;
         let answer = stepped.answer;
-        if let Outcome::Over(over) = outcome_of(answer) {
+        if let Progress::Over(over) = progress_of(answer) {
             return Driven {
                 answer: over,
                 waits,
@@ -134,24 +138,28 @@ fn drive(words: &mut [u32], search: Search) -> Driven
     }
 }
 
-fn outcome_of(answer: StepAnswer) -> Outcome {
+fn progress_of(answer: StepAnswer) -> Progress
+    ensures { λ r. ⌜ r ≡ progressOf (stepReply answer) ⌝ }
+{
     match answer {
-        StepAnswer::Refused { refusal, line: _ } => Outcome::Over(Answer::Refused(number(refusal))),
+        StepAnswer::Refused { refusal, line: _ } => Progress::Over(Answer::Refused(number(
+            refusal,
+        ))),
         StepAnswer::Status(status) => match status {
-            SearchStatus::Incomplete => Outcome::Waiting,
+            SearchStatus::Incomplete => Progress::Waits,
             SearchStatus::Solved {
                 total_cost,
                 moves: _,
-            } => Outcome::Over(Answer::Solved(total_cost)),
-            SearchStatus::Impossible => Outcome::Over(Answer::Impossible),
+            } => Progress::Over(Answer::Solved(total_cost)),
+            SearchStatus::Impossible => Progress::Over(Answer::Impossible),
         },
     }
 }
 
 // A solved order's line shows its path.
 fn put_driven(words: &[u32], order: usize, driven: Driven, out: &mut [u8]) -> usize
-    requires { ⌜ CanPut order (now out) × Counted driven ⌝ }
-    ensures { λ r. ⌜ r ≤ length (now (out .exit)) ⌝ }
+    requires { ⌜ CanPut order (now out) × (Counted driven × (soundWordsb (now words) ≡ true)) ⌝ }
+    ensures { λ r. ⌜ Puts (now (out .entry)) 0 (drivenText (driven .answer) order (readCache (now (words .entry))) driven) r (now (out .exit)) ⌝ }
 {
     let answer = driven.answer;
     let search = driven.search;

@@ -1,12 +1,11 @@
 -- `put_refusal` meets its contract.
 -- Assumes nothing.
 use borrow.Author.Needs.{needs}
-use Rattle.run_sheet.proofs.Within.{put-within}
 use Rattle.run_sheet.proofs.order.put_refusal.Statement.{statement}
 use Rattle.run_sheet.proofs.order.put_refusal.Tie as tie
 
 returns : tie.Need-returns
-returns c = put-within (c .before .before .put-line .ensures)
+returns c = c .before .before .put-line .ensures
 
 pub put-refusal-spec : {M : Type 1} → statement M
 put-refusal-spec =

@@ -1,17 +1,38 @@
 -- `put_search` meets its contract. The lists are within their arrays.
 -- Assumes nothing.
 use borrow.Author.Needs.{needs}
+use mathlib.Core.Path.{_∙_}
+use Rattle.run_sheet.proofs.Texts.{lists-lent, ran-refused, ran-driven}
 use Rattle.run_sheet.proofs.order.put_search.Statement.{statement}
 use Rattle.run_sheet.proofs.order.put_search.Tie as tie
 
 part-initialize-end : tie.Need-part-initialize-end
-part-initialize-end c = c .before .before .before .before .before .before .pre .1 .starts
+part-initialize-end c = c .before .before .before .before .before .before .pre .1 .0 .starts
 
 part-initialize-end-2 : tie.Need-part-initialize-end-2
-part-initialize-end-2 c = c .before .before .before .before .before .before .before .before .pre .1 .goals
+part-initialize-end-2 c = c .before .before .before .before .before .before .before .before .pre .1 .0 .goals
+
+drive-requires : tie.Need-drive-requires
+drive-requires c κs = c .before .before .before .before .before .before .initialize .ensures .sound ∙ c .before .before .before .before .before .before .before .before .before .before .before .before .before .before .before .before .pre .1 .1
 
 put-driven-requires : tie.Need-put-driven-requires
-put-driven-requires c κs = (c .before .before .before .before .before .before .before .before .before .before .before .before .before .before .before .before .before .before .before .before .before .pre .0, c .before .before .before .before .drive .ensures)
+put-driven-requires c κs =
+    let d = c .before .before .before .before .drive .ensures in
+    (c .before .before .before .before .before .before .before .before .before .before .before .before .before .before .before .before .before .before .before .before .before .pre .0, (d .counted, d .sound))
+
+returns : tie.Need-returns
+returns c =
+    let o = c .before .before .before .before .before .before .before .before .before .before in
+    let a = o .before .before .before .before .before .before .before .before .before .before in
+    ran-refused (a .pre .1 .1) (lists-lent (a .args .starts) (a .args .goals) (o .initialize .ensures))
+    (c .before .before .before .before .before .before .answer .given .1) (c .before .before .before .number .ensures) (c .before .before .put-refusal .ensures)
+
+returns-2 : tie.Need-returns-2
+returns-2 c =
+    let o = c .before .before .before .before .before .before .before .before .before .before .before .before .before .before in
+    let a = o .before .before .before .before .before .before .before .before .before .before in
+    ran-driven (a .pre .1 .1) (lists-lent (a .args .starts) (a .args .goals) (o .initialize .ensures))
+    (c .before .before .before .before .before .before .before .before .before .before .enum-told .given .1) (c .before .before .before .before .before .before .before .drive .ensures) (c .before .before .put-driven .ensures)
 
 pub put-search-spec : {M : Type 1} → statement M
 put-search-spec =
@@ -28,11 +49,11 @@ put-search-spec =
     (λ c κs. search needs)
     (λ c κs. search needs)
     (λ c. search needs)
-    (λ c κs. search needs)
+    drive-requires
     put-driven-requires
     (λ c. search needs)
     (λ c. search needs)
+    returns
     (λ c. search needs)
     (λ c. search needs)
-    (λ c. search needs)
-    (λ c. search needs))
+    returns-2)

@@ -1,0 +1,126 @@
+-- The lines that are put: of a search that was stepped to its end, of an order.
+-- Assumes nothing.
+use mathlib.Core.Path.{_≡_, refl, sym, ap, ap₂, _∙_, subst}
+use mathlib.Core.Logic.{_⊎_, inl, inr}
+use mathlib.Core.Bool.{Bool, true}
+use mathlib.Core.List.{List, []}
+use Prim.Native.Nat.{ℕ, _+_, _-_, _*_, _≤_}
+use native.Mathlib.Nat.{sub-zero}
+use native.Mathlib.Omega.{arith}
+use denote.Enum.Declared.{tagOf}
+use lib.ListN.{length, take, replicate}
+use Rattle.model.specs.declared.Refusal.{Refusal}
+use Rattle.model.specs.declared.InitializeAnswer.{InitializeAnswer}
+use Rattle.model.specs.declared.InitializeAnswer.the-variants as initializing
+use Rattle.model.specs.declared.RetraceAnswer.{RetraceAnswer}
+use Rattle.model.specs.declared.RetraceAnswer.the-variants as retracing
+use Rattle.model.specs.declared.SearchOpened.{SearchOpened}
+use Rattle.model.specs.Answers.{number, initializeReply, retraceReply}
+use Rattle.model.specs.Calls.{Cache, AfterInitialize, initialize, AfterRetrace}
+use Rattle.layout.specs.Read.{readCache}
+use Rattle.layout.specs.Sound.{soundWordsb}
+use Rattle.dijkstra.specs.Calls.{initializeIf, initializeWords, Initializing, retraceIf, Retracing}
+use Rattle.sheet.specs.declared.answers.Answer.{Answer}
+use Rattle.sheet.specs.declared.answers.Answer.the-variants.{Solved, Impossible, Refused}
+use Rattle.sheet.specs.declared.orders.Form.{Form}
+use Rattle.sheet.specs.declared.orders.Form.the-variants.{Forward, Backward, Illegal}
+use Rattle.sheet.specs.declared.orders.Numbers.{Numbers}
+use Rattle.sheet.specs.declared.orders.Order.{Order}
+use Rattle.sheet.specs.Orders.{orderOf}
+use Rattle.sheet.specs.Answers.{Puts, lineOf}
+use Rattle.sheet.proofs.answers.Answer as answer
+use Rattle.run_sheet.specs.declared.order.Driven.{Driven}
+use Rattle.run_sheet.specs.Orders.{lineFor, refusedText, shownText, drivenText, orderedBy, Ordered, ordered}
+use Rattle.run_sheet.specs.Sheet.{Drives, listed, Ran, RanBy, RanLine, BothSound}
+use Rattle.run_sheet.proofs.Within.{put-within}
+
+pub puts-as : {out t t′ left : List ℕ} {r : ℕ} → t ≡ t′ → Puts out 0 t r left → Puts out 0 t′ r left
+puts-as {out} {left = left} {r = r} e h = subst (λ (x : List ℕ). Puts out 0 x r left) e h
+
+-- ---- a search that was stepped to its end
+
+-- of an order that is not solved no path is shown
+pub unsolved-text : (d : Driven) (i : ℕ) (c : Cache) → (tagOf answer.the-type (d .answer) ≡ 1) ⊎ (tagOf answer.the-type (d .answer) ≡ 2)
+    → lineOf (lineFor i d) [] ≡ drivenText (d .answer) i c d
+unsolved-text d i c = go (d .answer)
+  where
+    go : (a : Answer) → (tagOf answer.the-type a ≡ 1) ⊎ (tagOf answer.the-type a ≡ 2) → lineOf (lineFor i d) [] ≡ drivenText a i c d
+    go (Solved k) (inl h) = absurd (omega arith)
+    go (Solved k) (inr h) = absurd (omega arith)
+    go Impossible h = refl
+    go (Refused n) h = refl
+
+-- of a solved one, what `retrace` answers in sound words
+module _ (ws : List ℕ) (ok : soundWordsb ws ≡ true) (d : Driven) {k : ℕ} (solved : d .answer ≡ Solved k) {r : RetraceAnswer} {q : List ℕ}
+    (p : Retracing ws (d .search) (replicate 2047 0) r q) (i : ℕ) where
+  shown-text : (x : RetraceAnswer) → r ≡ x → shownText i d (retraceReply x) q ≡ drivenText (d .answer) i (readCache ws) d
+  shown-text x e =
+      ap (λ (y : RetraceAnswer). shownText i d (retraceReply y) q) (sym e)
+      ∙ ap (λ (y : AfterRetrace). shownText i d (y .reply) (y .path)) (p ∙ ap (λ (b : Bool). retraceIf b (readCache ws) (d .search) (replicate 2047 0)) ok)
+      ∙ ap (λ (a : Answer). drivenText a i (readCache ws) d) (sym solved)
+
+  -- the path is lent as the part from its start on
+  pub path-text : {m : ℕ} → r ≡ retracing.Moves m → lineOf (lineFor i d) (take (1 + 2 * m - 0) q) ≡ drivenText (d .answer) i (readCache ws) d
+  path-text {m} e = ap (λ (n : ℕ). lineOf (lineFor i d) (take n q)) (sub-zero (1 + 2 * m)) ∙ shown-text (retracing.Moves m) e
+
+  pub no-path-text : {f : Refusal} {line n : ℕ} → r ≡ retracing.Refused f line → n ≡ number f → refusedText i n ≡ drivenText (d .answer) i (readCache ws) d
+  no-path-text {f} {line} e h = ap (refusedText i) h ∙ shown-text (retracing.Refused f line) e
+
+-- ---- an order of legal form
+
+ordered-is : (i : ℕ) (c : Cache) (ss gs : List ℕ) → let r = initialize c ss gs in orderedBy (r .reply) r i ≡ ordered i c ss gs
+unfolding ordered
+ordered-is i c ss gs = refl
+
+-- the lists are lent as the parts from their starts on
+pub lists-lent : (ss gs : Numbers) {ws left : List ℕ} {r : SearchOpened}
+    → Initializing ws (take (ss .count - 0) (ss .numbers)) (take (gs .count - 0) (gs .numbers)) r left → Initializing ws (listed ss) (listed gs) r left
+lists-lent ss gs {ws} {left} {r} h =
+    subst (λ (n : ℕ). Initializing ws (listed ss) (take n (gs .numbers)) r left) (sub-zero (gs .count))
+    (subst (λ (n : ℕ). Initializing ws (take n (ss .numbers)) (take (gs .count - 0) (gs .numbers)) r left) (sub-zero (ss .count)) h)
+
+module _ {ws ss gs : List ℕ} (ok : soundWordsb ws ≡ true) {r : SearchOpened} {left : List ℕ} (p : Initializing ws ss gs r left) where
+  abbrev after : AfterInitialize
+  after = record { cache = readCache left; search = r .search; reply = initializeReply (r .answer) }
+
+  opens-as : (i : ℕ) (x : InitializeAnswer) → r .answer ≡ x → orderedBy (initializeReply x) after i ≡ ordered i (readCache ws) ss gs
+  opens-as i x e =
+      let called : after ≡ initializeWords ws ss gs = λ j. record { cache = p .cache j; search = p .search j; reply = p .answer j } in
+      ap (λ (y : InitializeAnswer). orderedBy (initializeReply y) after i) (sym e)
+      ∙ ap (λ (y : AfterInitialize). orderedBy (y .reply) y i) (called ∙ ap (λ (b : Bool). initializeIf b (readCache ws) ss gs) ok)
+      ∙ ordered-is i (readCache ws) ss gs
+
+  module _ {i n : ℕ} {out words out′ : List ℕ} where
+    ran : {x : Ordered} → x ≡ ordered i (readCache ws) ss gs → Puts out 0 (x .text) n out′ → readCache words ≡ x .cache → soundWordsb words ≡ true
+        → Ran ws i ss gs out n words out′
+    ran e t c s = record { text = puts-as (ap (λ (y : Ordered). y .text) e) t; cache = c ∙ ap (λ (y : Ordered). y .cache) e; sound = s }
+
+  pub ran-refused : {i n : ℕ} {out out′ : List ℕ} {f : Refusal} {line k : ℕ} → r .answer ≡ initializing.Refused f line → k ≡ number f → Puts out 0 (refusedText i k) n out′
+      → Ran ws i ss gs out n left out′
+  ran-refused {i} {f = f} {line = line} e h t = ran (opens-as i (initializing.Refused f line) e) (puts-as (ap (refusedText i) h) t) refl (p .sound ∙ ok)
+
+  pub ran-driven : {i n : ℕ} {out words out′ : List ℕ} {d : Driven} → r .answer ≡ initializing.Initialized → Drives left (r .search) d words
+      → Puts out 0 (drivenText (d .answer) i (readCache words) d) n out′ → Ran ws i ss gs out n words out′
+  ran-driven {i} e h t =
+      ran (opens-as i initializing.Initialized e)
+      (puts-as (ap₂ (λ (c : Cache) (x : Driven). drivenText (x .answer) i c x) (h .cache) (h .driven)) t)
+      (h .cache) (h .sound)
+
+-- ---- an order's line, which was read
+
+pub ran-line : (fs bs : List ℕ) (i : ℕ) (l out : List ℕ) (r : ℕ) (fs′ bs′ out′ : List ℕ) (o : Order) (f : Form) → o ≡ orderOf l → o .form ≡ f
+    → RanBy f fs bs i o out r fs′ bs′ out′ → RanLine fs bs i l out r fs′ bs′ out′
+ran-line fs bs i l out r fs′ bs′ out′ o f read e h =
+    subst (λ (x : Order). RanBy (x .form) fs bs i x out r fs′ bs′ out′) read
+    (subst (λ (x : Form). RanBy x fs bs i o out r fs′ bs′ out′) (sym e) h)
+
+-- whatever its form, an order leaves sound words, and its line is within the bytes lent
+ran-by : (f : Form) (fs bs : List ℕ) (i : ℕ) (o : Order) (out : List ℕ) (r : ℕ) (fs′ bs′ out′ : List ℕ) → BothSound fs bs → RanBy f fs bs i o out r fs′ bs′ out′
+    → BothSound fs′ bs′ × (r ≤ length out′)
+ran-by Forward fs bs i o out r fs′ bs′ out′ s h = (record { forward = h .ran .sound; backward = rw (h .stays) (s .backward) }, put-within (h .ran .text))
+ran-by Backward fs bs i o out r fs′ bs′ out′ s h = (record { forward = rw (h .stays) (s .forward); backward = h .ran .sound }, put-within (h .ran .text))
+ran-by Illegal fs bs i o out r fs′ bs′ out′ s h = (record { forward = rw (h .forward) (s .forward); backward = rw (h .backward) (s .backward) }, put-within (h .text))
+
+pub line-ran : (fs bs : List ℕ) (i : ℕ) (l out : List ℕ) (r : ℕ) (fs′ bs′ out′ : List ℕ) → BothSound fs bs → RanLine fs bs i l out r fs′ bs′ out′
+    → BothSound fs′ bs′ × (r ≤ length out′)
+line-ran fs bs i l = ran-by (orderOf l .form) fs bs i (orderOf l)
