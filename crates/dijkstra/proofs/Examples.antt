@@ -6,6 +6,10 @@ use mathlib.Core.List.{List, [], _∷_, _++_}
 use Prim.Native.Nat.{ℕ}
 use native.Mathlib.Omega.{arith}
 use lib.ListN.{set, take, getD, replicate}
+use Rattle.model.specs.declared.BestSolution.{BestSolution}
+use Rattle.model.specs.declared.BestSolution.the-variants.{NoBest, Best}
+use Rattle.model.specs.declared.KnownLen.{KnownLen}
+use Rattle.model.specs.declared.KnownLen.the-variants.{Never, Len}
 use Rattle.model.specs.declared.Refusal.the-variants.{TreesFull}
 use Rattle.model.specs.declared.SearchStatus.the-variants.{Incomplete, Impossible}
 use Rattle.model.specs.declared.StepAnswer.the-variants as stepping
@@ -13,7 +17,7 @@ use Rattle.model.specs.declared.Search.{Search}
 use Rattle.model.specs.declared.SearchOpened.{SearchOpened}
 use Rattle.model.specs.Answers.{Reply, answered, refused, Status, waiting, solved, noPath}
 use Rattle.model.specs.Path.{path, words}
-use Rattle.model.specs.Search.{withEntry}
+use Rattle.model.specs.Search.{entry, withEntry, withKnown, withBest}
 use Rattle.model.specs.Calls.{initialize, step, retrace}
 use Rattle.layout.specs.Read.{readCache}
 use Rattle.layout.specs.Sound.{soundWordsb}
@@ -77,6 +81,11 @@ takes-3 : stepWords words0 search0 .tickets ≡ 3
 unfolding soundWordsb words0 search0 step
 takes-3 = refl
 
+-- the find is node 3, which came by 1 at cost 7, and not node 2, which was queued first at cost 9
+finds-7 : stepWords words0 search0 .search .«best_solution» ≡ Best 0 3
+unfolding soundWordsb words0 search0 step
+finds-7 = refl
+
 step-unsound : stepWords (set words0 4 0) search0 .reply ≡ refused 7 0
 unfolding soundWordsb words0 search0
 step-unsound = refl
@@ -132,6 +141,15 @@ isWaiting (answered (solved k m)) = false
 isWaiting (answered noPath) = false
 isWaiting (refused n line) = false
 
+isKnown : KnownLen → Bool
+isKnown Never = false
+isKnown (Len n) = true
+
+-- the best's node
+abbrev nodeOf : BestSolution → ℕ
+nodeOf NoBest = 0
+nodeOf (Best i n) = n
+
 isAnswer : Reply (Unit {0}) → Bool
 isAnswer (answered x) = true
 isAnswer (refused n line) = false
@@ -149,6 +167,16 @@ none-at-once s left p = true≢false (sym (ap isWaiting (p .answer ∙ steps)))
 -- "an invented ticket count"
 tickets-invented : (s : Search) (left : List ℕ) → Stepping words0 search0 (record { answer = stepping.Status Incomplete; tickets = 1; search = s }) left → ⊥
 tickets-invented s left p = absurd (omega (arith, p .tickets ∙ takes-3))
+
+-- "Closing a motif when it is queued: order 0 would cost 9."
+closed-when-queued : (t : ℕ) (left : List ℕ) → Stepping words0 search0 (record { answer = stepping.Status Incomplete; tickets = t; search = withBest search0 0 2 }) left → ⊥
+closed-when-queued t left p = absurd (omega (arith, ap nodeOf (ap (λ (s : Search). s .«best_solution») (p .search) ∙ finds-7)))
+
+-- "Remembering the count after a find by lookup."
+remembered-after-lookup : (t : ℕ) (left : List ℕ)
+    → Stepping sample opened0 (record { answer = stepping.Status Incomplete; tickets = t; search = withKnown finished0 0 1 }) left → ⊥
+unfolding isKnown soundWordsb sample opened0 finished0 step
+remembered-after-lookup t left p = true≢false (ap (λ (s : Search). isKnown (entry s 0 .«last_known_closed_len»)) (p .search))
 
 -- "`shelf full` with slots unused, or every call refused"
 refused-with-slots : (left : List ℕ) → Initializing bare (0 ∷ []) (2 ∷ []) (notOpened TreesFull) left → ⊥

@@ -6,3 +6,4 @@ pub mod Texts
 pub mod Bounds
 pub mod Driven
 pub mod Right
+pub mod Called

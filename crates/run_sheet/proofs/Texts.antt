@@ -31,7 +31,7 @@ use Rattle.sheet.specs.Answers.{Puts, lineOf}
 use Rattle.sheet.proofs.answers.Answer as answer
 use Rattle.run_sheet.specs.declared.order.Driven.{Driven}
 use Rattle.run_sheet.specs.Orders.{lineFor, refusedText, shownText, drivenText, orderedBy, Ordered, ordered}
-use Rattle.run_sheet.specs.Sheet.{Drives, listed, Ran, RanBy, RanLine, BothSound}
+use Rattle.run_sheet.specs.Sheet.{Drives, listed, Ran, RanBy, RanLine}
 use Rattle.run_sheet.proofs.Within.{put-within}
 
 pub puts-as : {out t t′ left : List ℕ} {r : ℕ} → t ≡ t′ → Puts out 0 t r left → Puts out 0 t′ r left
@@ -114,13 +114,11 @@ ran-line fs bs i l out r fs′ bs′ out′ o f read e h =
     subst (λ (x : Order). RanBy (x .form) fs bs i x out r fs′ bs′ out′) read
     (subst (λ (x : Form). RanBy x fs bs i o out r fs′ bs′ out′) (sym e) h)
 
--- whatever its form, an order leaves sound words, and its line is within the bytes lent
-ran-by : (f : Form) (fs bs : List ℕ) (i : ℕ) (o : Order) (out : List ℕ) (r : ℕ) (fs′ bs′ out′ : List ℕ) → BothSound fs bs → RanBy f fs bs i o out r fs′ bs′ out′
-    → BothSound fs′ bs′ × (r ≤ length out′)
-ran-by Forward fs bs i o out r fs′ bs′ out′ s h = (record { forward = h .ran .sound; backward = rw (h .stays) (s .backward) }, put-within (h .ran .text))
-ran-by Backward fs bs i o out r fs′ bs′ out′ s h = (record { forward = rw (h .stays) (s .forward); backward = h .ran .sound }, put-within (h .ran .text))
-ran-by Illegal fs bs i o out r fs′ bs′ out′ s h = (record { forward = rw (h .forward) (s .forward); backward = rw (h .backward) (s .backward) }, put-within (h .text))
+-- whatever its form, an order's line is within the bytes lent
+by-within : (f : Form) (fs bs : List ℕ) (i : ℕ) (o : Order) (out : List ℕ) (r : ℕ) (fs′ bs′ out′ : List ℕ) → RanBy f fs bs i o out r fs′ bs′ out′ → r ≤ length out′
+by-within Forward fs bs i o out r fs′ bs′ out′ h = put-within (h .ran .text)
+by-within Backward fs bs i o out r fs′ bs′ out′ h = put-within (h .ran .text)
+by-within Illegal fs bs i o out r fs′ bs′ out′ h = put-within (h .text)
 
-pub line-ran : (fs bs : List ℕ) (i : ℕ) (l out : List ℕ) (r : ℕ) (fs′ bs′ out′ : List ℕ) → BothSound fs bs → RanLine fs bs i l out r fs′ bs′ out′
-    → BothSound fs′ bs′ × (r ≤ length out′)
-line-ran fs bs i l = ran-by (orderOf l .form) fs bs i (orderOf l)
+pub line-within : (fs bs : List ℕ) (i : ℕ) (l out : List ℕ) (r : ℕ) (fs′ bs′ out′ : List ℕ) → RanLine fs bs i l out r fs′ bs′ out′ → r ≤ length out′
+line-within fs bs i l = by-within (orderOf l .form) fs bs i (orderOf l)

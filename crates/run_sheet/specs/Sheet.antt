@@ -84,11 +84,6 @@ RanBy Illegal fs bs i o out r fs′ bs′ out′ = NotRun fs bs i out r fs′ bs
 abbrev pub RanLine : List ℕ → List ℕ → ℕ → List ℕ → List ℕ → ℕ → List ℕ → List ℕ → List ℕ → Type 0
 RanLine fs bs i l out r fs′ bs′ out′ = RanBy (orderOf l .form) fs bs i (orderOf l) out r fs′ bs′ out′
 
--- both directions' words are sound
-pub record BothSound (fs bs : List ℕ) : Type 0 where
-  pub forward : soundWordsb fs ≡ true
-  pub backward : soundWordsb bs ≡ true
-
 -- ---- what is printed is right: of an order that was run in words which hold a cache after any calls, by nothing but the promise
 
 -- the words hold the cache that an accepted graph was opened as, after calls

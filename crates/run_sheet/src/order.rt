@@ -18,7 +18,7 @@ ghost use Rattle.layout.specs.Read.{readCache};
 ghost use Rattle.layout.specs.Sound.{soundWordsb};
 ghost use Rattle.sheet.specs.Answers.{Puts};
 ghost use Rattle.run_sheet.specs.Orders.{progressOf, refusedText, drivenText};
-ghost use Rattle.run_sheet.specs.Sheet.{CanPut, Listed, Counted, Drives, listed, Ran, RanLine, BothSound};
+ghost use Rattle.run_sheet.specs.Sheet.{CanPut, Listed, Counted, Drives, listed, Ran, RanLine, CalledBoth};
 
 // One step more than a search of 64 trees and 2,048 edges waits: 1 + 64 × (1 + 2,048) waits, and then its answer.
 const MAX_STEPS: usize = 131138;
@@ -48,7 +48,7 @@ pub fn put_order(
     line: &[u8],
     out: &mut [u8],
 ) -> usize
-    requires { ⌜ CanPut order (now out) × BothSound (now forward) (now backward) ⌝ }
+    requires { ⌜ CanPut order (now out) × CalledBoth (now forward) (now backward) ⌝ }
     ensures { λ r. ⌜ RanLine (now (forward .entry)) (now (backward .entry)) order (now (line .entry)) (now (out .entry)) r (now (forward .exit)) (now (backward .exit)) (now (out .exit)) ⌝ }
 {
     let read = read_order(line);

@@ -6,16 +6,17 @@ use Prim.Native.Nat.{_-_, _≤_}
 use native.Mathlib.Omega.{arith}
 use lib.ListN.{length}
 use Rattle.text.proofs.LineCuts.{place-within}
-use Rattle.run_sheet.specs.Sheet.{BothSound}
+use Rattle.run_sheet.specs.Sheet.{CalledBoth}
 use Rattle.run_sheet.proofs.Within.{put-within}
-use Rattle.run_sheet.proofs.Texts.{line-ran}
+use Rattle.run_sheet.proofs.Texts.{line-within}
+use Rattle.run_sheet.proofs.Called.{called-after}
 use Rattle.run_sheet.proofs.print_orders.Statement.{statement}
 use Rattle.run_sheet.proofs.print_orders.Tie as tie
 
 abbrev Inv-loop : tie.InvT-loop
 Inv-loop forward₀ backward₀ orders out₀ at₀ order₀ forward backward out at order =
     (length forward ≡ length forward₀)
-    × ((length backward ≡ length backward₀) × ((length out ≡ length out₀) × ((order ≤ at) × ((at ≤ length orders) × BothSound forward backward))))
+    × ((length backward ≡ length backward₀) × ((length out ≡ length out₀) × ((order ≤ at) × ((at ≤ length orders) × CalledBoth forward backward))))
 
 abbrev μ-loop : tie.MeasureT-loop
 μ-loop forward₀ backward₀ orders out₀ at₀ order₀ forward backward out at order = length orders - at
@@ -23,8 +24,8 @@ abbrev μ-loop : tie.MeasureT-loop
 found-within : (c : tie.After-find Inv-loop μ-loop) → c .find .result ≤ length (c .before .before .before .before .before .before .before .before .args .orders .now) - c .before .before .before .loop .at
 found-within c = place-within (c .before .before .before .before .before .before .before .before .args .orders .now) (c .before .before .before .loop .at) (c .find .ensures)
 
-ran : (c : tie.After-put-order Inv-loop μ-loop) → BothSound (c .put-order .last .0) (c .put-order .last .1 .0) × (c .put-order .result ≤ length (c .put-order .last .1 .1 .1 .1 .0))
-ran c = line-ran _ _ _ _ _ _ _ _ _ (c .before .before .before .before .before .before .before .before .before .loop .inv .1 .1 .1 .1 .1) (c .put-order .ensures)
+called : (c : tie.After-put-order Inv-loop μ-loop) → CalledBoth (c .put-order .last .0) (c .put-order .last .1 .0)
+called c = called-after _ _ _ _ _ _ _ _ _ (c .before .before .before .before .before .before .before .before .before .loop .inv .1 .1 .1 .1 .1) (c .put-order .ensures)
 
 add-end : tie.Need-add-end Inv-loop μ-loop
 add-end c = omega (arith, found-within c)
@@ -36,7 +37,7 @@ part-put-order-end : tie.Need-part-put-order-end Inv-loop μ-loop
 part-put-order-end c = omega (arith, found-within (c .before .before .before))
 
 part-write-all-end-2 : tie.Need-part-write-all-end-2 Inv-loop μ-loop
-part-write-all-end-2 c = ran (c .before .before .before .before .before .before .before) .1
+part-write-all-end-2 c = line-within _ _ _ _ _ _ _ _ _ (c .before .before .before .before .before .before .before .put-order .ensures)
 
 add-at : tie.Need-add-at Inv-loop μ-loop
 add-at c = omega (arith, found-within (c .before .before .before .before .before .before .before .before .before .before .before .before .before .before .before))
@@ -46,7 +47,7 @@ loop-less c = omega (arith, found-within (c .before .before .before .before .bef
 
 loop-again : tie.Need-loop-again Inv-loop μ-loop
 loop-again c =
-    (search needs, (search needs, (search needs, (omega arith, (omega (arith, found-within (c .before .before .before .before .before .before .before .before .before .before .before .before .before .before .before)), ran (c .before .before .before .before .before .before .before .before .before) .0)))))
+    (search needs, (search needs, (search needs, (omega arith, (omega (arith, found-within (c .before .before .before .before .before .before .before .before .before .before .before .before .before .before .before)), called (c .before .before .before .before .before .before .before .before .before))))))
 
 pub print-orders-spec : {M : Type 1} → statement M
 print-orders-spec =

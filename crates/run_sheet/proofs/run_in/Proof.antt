@@ -3,6 +3,7 @@
 use borrow.Author.Needs.{needs}
 use borrow.Author.Tests.{not-false}
 use native.Mathlib.Omega.{arith}
+use Rattle.run_sheet.proofs.Called.{called-both}
 use Rattle.run_sheet.proofs.run_in.Statement.{statement}
 use Rattle.run_sheet.proofs.run_in.Tie as tie
 
@@ -10,7 +11,7 @@ print-orders-requires : tie.Need-print-orders-requires
 print-orders-requires c κs =
     let b = c .before .before .before .before .before in
     let f = b .before .before .before .before .before in
-    (f .before .before .before .before .before .before .before .before .before .pre, (omega arith, record { forward = f .before .before .before .is-opened .ensures (not-false _ (f .if1 .left)); backward = b .before .before .before .is-opened2 .ensures (not-false _ (b .if2 .left)) }))
+    (f .before .before .before .before .before .before .before .before .before .pre, (omega arith, called-both _ _ _ (f .before .before .before .is-opened .ensures (not-false _ (f .if1 .left))) (b .before .before .before .is-opened2 .ensures (not-false _ (b .if2 .left)))))
 
 pub run-in-spec : {M : Type 1} → statement M
 run-in-spec =

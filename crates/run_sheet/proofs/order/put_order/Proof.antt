@@ -11,12 +11,12 @@ use Rattle.run_sheet.proofs.order.put_order.Tie as tie
 put-search-requires : tie.Need-put-search-requires
 put-search-requires c κs =
     let a = c .before .before .before .before .before .before .before .before .before .before .before in
-    (a .pre .0, (order-read _ _ (c .before .before .before .before .before .before .read-order .ensures), search needs))
+    (a .pre .0, (order-read _ _ (c .before .before .before .before .before .before .read-order .ensures), a .pre .1 .forward .sound))
 
 put-search-requires-2 : tie.Need-put-search-requires-2
 put-search-requires-2 c κs =
     let a = c .before .before .before .before .before .before .before .before .before .before .before in
-    (a .pre .0, (order-read _ _ (c .before .before .before .before .before .before .read-order .ensures), search needs))
+    (a .pre .0, (order-read _ _ (c .before .before .before .before .before .before .read-order .ensures), a .pre .1 .backward .sound))
 
 returns : tie.Need-returns
 returns c =

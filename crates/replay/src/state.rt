@@ -1,0 +1,53 @@
+// What a script's lines leave behind, beside the words.
+use crate::print::print;
+use model::Search;
+ghost use Prim.Native.Nat.{_<_, _≤_};
+
+pub const RECORDS: usize = 8;
+
+// The length of the chart text, how many words of each direction are lent, and the search records.
+pub struct State {
+    pub chart: usize,
+    pub lent: [usize; 2],
+    pub records: [Search; 8],
+}
+
+impl State {
+    pub fn new() -> State {
+        let empty = Search::empty();
+        State {
+            chart: 0,
+            lent: [0; 2],
+            records: [empty; RECORDS],
+        }
+    }
+
+    pub fn with_lent(mut self, side: usize, lent: usize) -> State
+        requires { ⌜ side < 2 ⌝ }
+    {
+        self.lent[side] = lent;
+        self
+    }
+
+    pub fn with_record(mut self, k: usize, record: Search) -> State
+        requires { ⌜ k < 8 ⌝ }
+    {
+        self.records[k] = record;
+        self
+    }
+
+    // A line that has no form.
+    pub fn passed_over(self) -> State {
+        print(b"?\n");
+        self
+    }
+}
+
+pub fn least(a: usize, b: usize) -> usize
+    ensures { λ r. ⌜ r ≤ b ⌝ }
+{
+    if a < b {
+        return a;
+    }
+    b
+}
