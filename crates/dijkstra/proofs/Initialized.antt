@@ -5,7 +5,7 @@ use mathlib.Core.Logic.{_≢_}
 use mathlib.Core.Bool.{Bool, true, false, not, _&&_}
 use mathlib.Core.List.{List}
 use mathlib.Core.Option.{Option, none}
-use Prim.Native.Nat.{ℕ, zero, suc, _-_, _<_, _≤_}
+use Prim.Native.Nat.{ℕ, _-_, _<_, _≤_}
 use borrow.Author.Tests.{le-leb, lt-leb}
 use lib.Dec.{leb, ltb}
 use lib.ListN.{length, getD}
@@ -19,6 +19,7 @@ use Rattle.model.specs.Search.{emptySearch, newSearch, rootsOf, goalsOf}
 use Rattle.model.specs.Calls.{Cache, AfterInitialize, orElse, firstFault, withTrees, initializeFaults, initializeBy, initialize}
 use Rattle.layout.specs.Read.{directionOf, readCache}
 use Rattle.layout.specs.Sound.{soundWordsb}
+use Rattle.layout.proofs.Directions.{backward-word}
 use Rattle.sound.proofs.Facts.{sound-words-at, at-sound-words, trees-length}
 use Rattle.memory.proofs.Slots.{vertices-read}
 use Rattle.plant.specs.Plant.{plantedFor}
@@ -38,8 +39,8 @@ pub forward-lists : {n : ℕ} → n ≡ 0 → (ss gs : List ℕ) → (rootsOf (d
 forward-lists e ss gs = (ap (λ (n : ℕ). rootsOf (directionOf n) ss gs) e, ap (λ (n : ℕ). goalsOf (directionOf n) ss gs) e)
 
 pub backward-lists : (n : ℕ) → n ≢ 0 → (ss gs : List ℕ) → (rootsOf (directionOf n) ss gs ≡ gs) × (goalsOf (directionOf n) ss gs ≡ ss)
-backward-lists zero h ss gs = absurd (h refl)
-backward-lists (suc n) h ss gs = (refl, refl)
+backward-lists n h ss gs =
+    (ap (λ (d : Direction). rootsOf d ss gs) (backward-word n h), ap (λ (d : Direction). goalsOf d ss gs) (backward-word n h))
 
 module _ (ws ss gs : List ℕ) where
   abbrev c : Cache

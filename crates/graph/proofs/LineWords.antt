@@ -2,11 +2,11 @@
 -- Assumes nothing.
 use mathlib.Core.Path.{_≡_, refl, ap, _∙_}
 use mathlib.Core.List.{List, [], _∷_}
-use Prim.Native.Nat.{ℕ, zero, suc, _+_, _-_, _<_, _≤_}
+use Prim.Native.Nat.{ℕ, suc, _+_, _-_, _<_, _≤_}
 use native.Mathlib.Omega.{arith}
 use lib.ListN.{length, set, take, drop, length-set}
 use lib.Seq.{sets}
-use Rattle.model.specs.Graph.{Direction, backward}
+use Rattle.model.specs.Graph.{Direction}
 use Rattle.text.specs.declared.lines.InitialCost.{InitialCost}
 use Rattle.text.specs.declared.lines.InitialCost.the-variants.{Absent, Cost}
 use Rattle.text.specs.declared.lines.Line.{Line}
@@ -19,7 +19,6 @@ use Rattle.text.proofs.LineCuts.{rest, lines-past}
 use Rattle.text.proofs.Passed.{Within, Passes, judged-within}
 use Rattle.text.proofs.Passing.{Passing, passing-first, passing-lines, passing-line, passing-next}
 use Rattle.layout.specs.Layout.{slotsAt}
-use Rattle.layout.specs.Read.{directionOf}
 use Rattle.graph.specs.Write.{CanWrite, WritesLine, lineWritten, linesWritten}
 
 -- three stores in a row
@@ -28,10 +27,6 @@ sets-three l i a b c =
     let one : i + 1 ≡ suc i = omega arith in
     let two : i + 2 ≡ suc (suc i) = omega arith in
     rw (one, two)
-
-pub backward-word : (d : ℕ) → (d ≡ 0 → ⊥) → directionOf d ≡ backward
-backward-word zero h = absurd (h refl)
-backward-word (suc d) h = refl
 
 -- ---- one line
 

@@ -1,4 +1,5 @@
 -- Laws that belong to no one function.
+pub mod Directions
 pub mod Edges
 pub mod Places
 pub mod Sizes

@@ -1,25 +1,22 @@
 -- The path of a node in a slice: the root's, and another node's by its parent's.
 -- Assumes nothing.
-use mathlib.Core.Path.{_≡_, refl, sym, ap, ap₂, _∙_}
+use mathlib.Core.Path.{_≡_, sym, ap, ap₂, _∙_}
 use mathlib.Core.List.{List, [], _∷_}
-use Prim.Native.Nat.{ℕ, zero, suc, _+_, _-_, _*_, _<_, _≤_}
+use Prim.Native.Nat.{ℕ, _+_, _-_, _*_, _<_, _≤_}
 use native.Mathlib.Omega.{arith}
 use lib.ListN.{length, getD, set}
 use borrow.Rule.Slice.PartMut.{midOf, putMid}
-use Rattle.model.specs.Graph.{Direction, backward}
+use Rattle.model.specs.Graph.{Direction}
 use Rattle.model.specs.Path.{movesOf, moved, words}
 use Rattle.model.specs.Calls.{written}
 use Rattle.model.proofs.Words.{words-count}
 use Rattle.layout.specs.Layout.{nodeAt}
 use Rattle.layout.specs.Read.{directionOf}
+use Rattle.layout.proofs.Directions.{backward-word}
 use Rattle.paths.specs.Path.{nodesOf, CanBacktrack, Backtracks}
 use Rattle.paths.proofs.Steps.{root-moves}
 use Rattle.paths.proofs.Written.{written-first, written-behind, written-before}
 use Rattle.paths.proofs.Parents.{parentOf, hung-parent, hung-moves, hung-words, hung-root}
-
-is-backward : (dir : ℕ) → (dir ≡ 0 → ⊥) → directionOf dir ≡ backward
-is-backward zero z = absurd (z refl)
-is-backward (suc k) z = refl
 
 pub root-backtracks : {t p : List ℕ} {dir n v : ℕ} → CanBacktrack t n (length p) → v ≡ getD t (nodeAt n + 0) 0 → n ≡ 0 → Backtracks t dir n p 1 (set p 0 v)
 root-backtracks {t} {p} {dir} {n} {v} can vertex e = record {
@@ -85,6 +82,6 @@ module _ {t p q : List ℕ} {n up l v dir r : ℕ} (b : Below t n up l v (length
         path =
             ap (λ (x : List ℕ). set (set (putMid 2 (length p - 2) p x) 0 v) 1 l) (done .path)
             ∙ written-before ws p l v (two-words b)
-            ∙ ap (λ (d : Direction). written (moved d ws l v) p) (sym (is-backward dir z))
+            ∙ ap (λ (d : Direction). written (moved d ws l v) p) (sym (backward-word dir z))
             ∙ ap (λ (x : List ℕ). written x p) (sym (parent-words b (directionOf dir)));
       }
