@@ -4,7 +4,7 @@ use mathlib.Core.Path.{_≡_}
 use mathlib.Core.Logic.{_⊎_}
 use mathlib.Core.Bool.{Bool, true, false, not}
 use mathlib.Core.List.{List}
-use Prim.Native.Nat.{ℕ, zero, suc, _+_, _<_, _≤_}
+use Prim.Native.Nat.{ℕ, _+_, _<_, _≤_}
 use lib.Dec.{eqb}
 use lib.ListN.{length, getD, set}
 use Rattle.model.specs.declared.CostBound.{CostBound}
@@ -13,7 +13,7 @@ use Rattle.model.specs.Graph.{Domain, choices}
 use Rattle.model.specs.Tree.{Tree, node, closedAt, evaluation, expanded, Growth, Going, on, found, over, above, goingOn, grow}
 use Rattle.model.specs.Sound.{tree}
 use Rattle.model.specs.Search.{findOf}
-use Rattle.model.specs.Calls.{Cache, withTrees}
+use Rattle.model.specs.Calls.{withTrees}
 use Rattle.layout.specs.Layout.{slotAt, treeWords}
 use Rattle.layout.specs.Read.{treeIn, domainOf, readCache}
 use Rattle.layout.specs.Sound.{slotWords}

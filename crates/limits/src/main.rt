@@ -3,7 +3,6 @@
 use layout::wide;
 use model::OpenAnswer;
 use model::Refusal;
-ghost use mathlib.Core.Path.{_≡_};
 ghost use Prim.Native.Nat.{_<_, _≤_};
 ghost use lib.ListN.{length};
 

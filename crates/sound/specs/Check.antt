@@ -3,7 +3,7 @@
 use mathlib.Core.Path.{_≡_}
 use mathlib.Core.Bool.{Bool, true, false, not, _&&_, _||_}
 use mathlib.Core.List.{List, [], _∷_}
-use Prim.Native.Nat.{ℕ, suc, _+_, _-_, _*_, _<_, _≤_, min}
+use Prim.Native.Nat.{ℕ, suc, _+_, _*_, _<_, _≤_, min}
 use lib.Dec.{eqb, leb, ltb}
 use lib.ListN.{length, getD}
 use Rattle.model.specs.Lists.{mem, allb, upto, allIn}

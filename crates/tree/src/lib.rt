@@ -8,7 +8,7 @@ use queue::Popped;
 ghost use mathlib.Core.Path.{_≡_};
 ghost use mathlib.Core.List.{_∷_, []};
 ghost use Prim.Native.Nat.{_+_, _≤_};
-ghost use lib.ListN.{length, getD};
+ghost use lib.ListN.{length};
 ghost use lib.Seq.{sets};
 ghost use Rattle.model.specs.Tree.{appended, pushNode};
 ghost use Rattle.layout.specs.Layout.{nodeAt};

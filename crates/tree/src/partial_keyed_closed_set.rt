@@ -2,7 +2,6 @@
 use layout::wide;
 use model::Solution;
 ghost use mathlib.Core.Path.{_≡_};
-ghost use lib.ListN.{length, getD};
 ghost use Rattle.model.specs.Tree.{closedAt};
 ghost use Rattle.model.specs.Search.{closedCount};
 ghost use Rattle.tree.specs.Tree.{treeOf, Formed, HasVertex, HasGoals, HasSolution, statusOf, CanClose, CloseIs, CheapestIs, Considers};
