@@ -20,8 +20,7 @@ use Rattle.model.specs.Calls.{Cache, AfterInitialize, orElse, firstFault, withT
 use Rattle.layout.specs.Read.{directionOf, readCache}
 use Rattle.layout.specs.Sound.{soundWordsb}
 use Rattle.layout.proofs.Directions.{backward-word}
-use Rattle.sound.proofs.Facts.{sound-words-at, at-sound-words, trees-length}
-use Rattle.memory.proofs.Slots.{vertices-read}
+use Rattle.sound.proofs.Facts.{sound-words-at, at-sound-words, trees-length, vertices-read}
 use Rattle.plant.specs.Plant.{plantedFor}
 use Rattle.dijkstra.specs.Calls.{initializeIf, initializeWords, initializedWords, Initializing, notOpened, isFull, OpensIf, OpenedSearch}
 

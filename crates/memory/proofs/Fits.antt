@@ -27,11 +27,10 @@ use Rattle.model.proofs.Bools.{and-true, true-and, all-true}
 use Rattle.model.proofs.Valid.{entries-length, entries-at}
 use Rattle.layout.specs.Read.{readCache}
 use Rattle.sound.specs.Facts.{SoundWords}
-use Rattle.sound.proofs.Facts.{trees-length, sound-cache}
+use Rattle.sound.proofs.Facts.{trees-length, sound-cache, vertices-read}
 use Rattle.grow.specs.Grow.{InUse}
 use Rattle.memory.specs.Memory.{HasNode, Listed, Holds, CanJudge, Entered, FitsWords}
 use Rattle.memory.proofs.Lists.{list-at, below-at}
-use Rattle.memory.proofs.Slots.{vertices-read}
 
 -- ---- an entry's tree
 

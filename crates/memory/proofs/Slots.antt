@@ -6,28 +6,21 @@ use Prim.Native.Nat.{ℕ, _+_, _-_, _<_, _≤_}
 use native.Mathlib.Omega.{arith}
 use borrow.Rule.Slice.PartMut.{midOf}
 use lib.ListN.{length, getD}
-use Rattle.model.specs.Graph.{vertexCount}
 use Rattle.model.specs.Tree.{Node, Tree, node, evaluation}
 use Rattle.model.specs.Sound.{tree}
 use Rattle.model.proofs.Least.{node-inside}
 use Rattle.layout.specs.Layout.{Sized, nodeAt, closedAt as closedWordsAt, treeWords}
 use Rattle.layout.specs.Read.{readCache}
 use Rattle.layout.proofs.Trees.{tree-nodes, tree-node}
-use Rattle.layout.proofs.Edges.{vertex-count-in}
 use Rattle.queue.specs.Queue.{evaluationIn}
 use Rattle.tree.specs.Tree.{treeOf, Formed, HasVertex}
 use Rattle.tree.proofs.Closed.{node-cost}
-use Rattle.sound.specs.Facts.{SoundWords}
-use Rattle.sound.proofs.Facts.{trees-length, tree-read, sound-accepted, sound-cache}
+use Rattle.sound.proofs.Facts.{trees-length, tree-read, sound-accepted, sound-cache, vertices-read}
 use Rattle.grow.specs.declared.Slot.{Slot}
 use Rattle.grow.specs.Grow.{InUse, slotOf, treeAt, Ready}
 use Rattle.grow.proofs.Slots.{slot-length, mid-slot, tree-lent}
 use Rattle.grow.proofs.Kept.{slot-ready}
 use Rattle.memory.specs.Memory.{HasVertices}
-
-pub vertices-read : {ws : List ℕ} → SoundWords ws → vertexCount (readCache ws .domain .graph) ≡ getD ws 1 0
-unfolding readCache
-vertices-read {ws} ok = vertex-count-in (getD ws 1 0) (getD ws 2 0) ws (omega (arith, ok .held .fits))
 
 module _ {ws : List ℕ} {i : ℕ} (u : InUse ws i) where
   -- what `slot_of` asks for

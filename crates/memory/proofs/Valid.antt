@@ -16,9 +16,9 @@ use Rattle.model.specs.Valid.{listTests, entryTests, everyb, bestCloses, leastH
 use Rattle.model.proofs.Bools.{and-true}
 use Rattle.layout.specs.Read.{readCache}
 use Rattle.sound.specs.Facts.{SoundWords}
+use Rattle.sound.proofs.Facts.{vertices-read}
 use Rattle.sound.proofs.Tests.{all-fails, read-last}
 use Rattle.memory.specs.Memory.{Listed, Entered, FitsWords}
-use Rattle.memory.proofs.Slots.{vertices-read}
 use Rattle.memory.proofs.Fits.{lists-at, entered-at, fits-at, best-few}
 
 module _ (ws : List ℕ) (s : Search) (ok : SoundWords ws) where

@@ -9,15 +9,13 @@ use native.Mathlib.Omega.{arith}
 use lib.ListN.{length, getD, take, drop, length-map}
 use lib.Seq.{length-take-le, drop-at}
 use Rattle.model.specs.Lists.{mem}
-use Rattle.model.specs.Graph.{Domain, vertexCount}
+use Rattle.model.specs.Graph.{Domain}
 use Rattle.model.specs.Tree.{Tree, newTree}
 use Rattle.model.specs.Sound.{SoundTrees, starts}
 use Rattle.model.proofs.Lists.{mem-nil, mem-cases}
 use Rattle.model.proofs.Keeps.{plants-keep}
 use Rattle.layout.specs.Read.{readCache}
-use Rattle.layout.proofs.Edges.{vertex-count-in}
-use Rattle.sound.specs.Facts.{SoundWords}
-use Rattle.sound.proofs.Facts.{trees-length, sound-cache}
+use Rattle.sound.proofs.Facts.{trees-length, sound-cache, vertices-read}
 use Rattle.plant.specs.declared.Planned.{Planned}
 use Rattle.plant.specs.Plant.{CanPlantAll, CanPlan, plantedFor, Plans}
 use Rattle.plant.proofs.NewTrees.{new-length}
@@ -28,10 +26,6 @@ listed-below n (x ∷ vs) f v e = elim (mem-cases v x vs e) [
   | inl z ↦ omega (arith, z, f 0 (omega arith))
   | inr z ↦ listed-below n vs (λ i h. f (suc i) (omega arith)) v z
 ]
-
-vertices : (ws : List ℕ) → SoundWords ws → vertexCount (readCache ws .domain .graph) ≡ getD ws 1 0
-unfolding readCache
-vertices ws ok = vertex-count-in (getD ws 1 0) (getD ws 2 0) ws (omega (arith, ok .held .fits))
 
 new-starts : (d : Domain) (vs : List ℕ) → starts (map (newTree d) vs) ≡ vs
 unfolding newTree
@@ -63,7 +57,7 @@ module _ {ws vs : List ℕ} {r : Planned} (ok : CanPlan ws vs) (p : Plans ws vs 
       ∙ new-starts d new)
 
   planned-sound : SoundTrees d (plantedFor ws vs .trees)
-  planned-sound = plants-keep d vs ts (sound-cache ws (ok .sound) .trees) (λ v e. rw (vertices ws (ok .sound)) (listed-below (getD ws 1 0) vs (ok .vertices) v e)) .0
+  planned-sound = plants-keep d vs ts (sound-cache ws (ok .sound) .trees) (λ v e. rw (vertices-read (ok .sound)) (listed-below (getD ws 1 0) vs (ok .vertices) v e)) .0
 
   pub can-plant-all : getD ws 4 0 + r .count ≤ getD ws 3 0 → CanPlantAll ws (take (r .count) (r .starts))
   can-plant-all room = record { sound = ok .sound; room = omega (arith, room, new-count); trees = rw (← p .trees) planned-sound }

@@ -9,7 +9,7 @@ use native.Mathlib.Omega.{arith}
 use borrow.Author.Tests.{le-leb}
 use lib.ListN.{length, getD}
 use Rattle.model.specs.Lists.{allb}
-use Rattle.model.specs.Graph.{Domain, Accepted}
+use Rattle.model.specs.Graph.{Domain, Accepted, vertexCount}
 use Rattle.model.specs.Sound.{Sound, tree, starts, soundb}
 use Rattle.model.specs.Calls.{SoundCache}
 use Rattle.model.proofs.Bools.{and-true, true-and, all-true, true-given, upto-at, at-upto}
@@ -17,6 +17,7 @@ use Rattle.model.proofs.Tests.{sound-at, at-sound, distinct-at, at-distinct}
 use Rattle.layout.specs.Layout.{Sized, closedAt as closedWordsAt, treeWords, slotAt, needed}
 use Rattle.layout.specs.Read.{treeIn, treesIn, domainOf, readCache}
 use Rattle.layout.specs.Sound.{headerTests, graphTests, formedb, treeWordsb, slotWords, treesTests, soundWordsb}
+use Rattle.layout.proofs.Edges.{vertex-count-in}
 use Rattle.layout.proofs.Trees.{tree-nodes, tree-closed}
 use Rattle.tree.specs.Tree.{Formed}
 use Rattle.tree.proofs.Parts.{zeros-at, at-zeros}
@@ -149,3 +150,8 @@ module _ (ws : List ℕ) where
           rw (tree-in-at m l ws h) (ok .sound i h);
     };
   }
+
+-- the vertices of the cache that sound words hold
+pub vertices-read : {ws : List ℕ} → SoundWords ws → vertexCount (readCache ws .domain .graph) ≡ getD ws 1 0
+unfolding readCache
+vertices-read {ws} ok = vertex-count-in (getD ws 1 0) (getD ws 2 0) ws (omega (arith, ok .held .fits))
