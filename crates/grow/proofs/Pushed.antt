@@ -1,4 +1,4 @@
--- Queueing the edge at a place of the edge numbers.
+-- Queueing an edge.
 -- Assumes nothing.
 use mathlib.Core.Path.{_≡_, sym, ap, ap₂, subst, _∙_}
 use mathlib.Core.List.{List}
@@ -6,9 +6,9 @@ use Prim.Native.Nat.{ℕ, _+_, _-_, _<_}
 use native.Mathlib.Omega.{arith}
 use lib.ListN.{length, getD}
 use borrow.Rule.Slice.PartMut.{putMid, midOf}
-use Rattle.model.specs.Graph.{Graph, edgeNumbers, edgeCount, to, cost}
+use Rattle.model.specs.Graph.{Graph, edgeCount, to, cost}
 use Rattle.model.specs.Tree.{pushNode, child}
-use Rattle.layout.specs.Layout.{numbersAt, edgeAt, EdgeWord}
+use Rattle.layout.specs.Layout.{edgeAt}
 use Rattle.layout.specs.Read.{graphIn}
 use Rattle.layout.proofs.Edges.{edge-count-in, vertex-count-in, to-word, cost-word}
 use Rattle.tree.specs.Tree.{CanPushNode, treeOf, nodeOf, Holds as Left}
@@ -16,51 +16,30 @@ use Rattle.tree.specs.declared.Node.{Node as NodeWords}
 use Rattle.grow.specs.declared.Slot.{Slot}
 use Rattle.grow.specs.Grow.{treeAt, domainAt, Holds, CanPushChoice}
 use Rattle.grow.proofs.Slots.{slot-length, mid-slot, tree-lent, put-holds}
-use Rattle.grow.proofs.Choices.{edge-below}
 
--- e: the edge number read
-module _ {s : Slot} {ws : List ℕ} {k p e : ℕ} (h : CanPushChoice s ws k p) (is : e ≡ getD ws (numbersAt (s .vertices) (s .edges) + p) 0) where
+-- w: the edge's number as a place
+module _ {s : Slot} {ws : List ℕ} {k e w : ℕ} (h : CanPushChoice s ws k e) (is : w ≡ e) where
   abbrev graph : Graph
   graph = graphIn (s .vertices) (s .edges) ws
 
-  number : e ≡ getD (edgeNumbers (domainAt s ws)) p 0
-  number = is ∙ h .ready .held .number p (h .place)
-
-  count : edgeCount graph ≡ s .edges
-  count = edge-count-in (s .vertices) (s .edges) ws
-
   usable : e < edgeCount graph
-  usable = omega (arith, number, edge-below (domainAt s ws) (h .ready .held .accepted) p (omega (arith, count, h .place)))
-
-  edge-known : e < s .edges
-  edge-known = omega (arith, usable, count)
-
-  pub edge-fits : e < 4294967296
-  edge-fits = omega (arith, edge-known, h .ready .held .sized .edges)
-
-  pub can-read : (q : ℕ) → q < 3 → EdgeWord (length ws) (s .vertices) e q
-  can-read q b = record {
-    vertices = h .ready .held .sized .vertices;
-    edge = omega (arith, edge-known, h .ready .held .sized .edges);
-    word = b;
-    within = omega (arith, edge-known, h .ready .held .fits);
-  }
+  usable = omega (arith, h .edge, edge-count-in (s .vertices) (s .edges) ws)
 
   -- x: its cost
-  module _ {x : ℕ} (costs : x ≡ getD ws (edgeAt (s .vertices) e + 2) 0) where
+  module _ {x : ℕ} (costs : x ≡ getD ws (edgeAt (s .vertices) w + 2) 0) where
     cost-is : x ≡ cost graph e
-    cost-is = costs ∙ sym (cost-word (s .vertices) (s .edges) ws e edge-known)
+    cost-is = costs ∙ ap (λ (i : ℕ). getD ws (edgeAt (s .vertices) i + 2) 0) is ∙ sym (cost-word (s .vertices) (s .edges) ws e (h .edge))
 
     pub cost-fits : k + x < 4294967296
     cost-fits = omega (arith, cost-is, h .cost, h .ready .held .accepted .costs e usable)
 
     -- y: the vertex that it enters; n: the node that it hangs on
-    module _ {y : ℕ} (enters : y ≡ getD ws (edgeAt (s .vertices) e + 1) 0) (n : ℕ) where
+    module _ {y : ℕ} (enters : y ≡ getD ws (edgeAt (s .vertices) w + 1) 0) (n : ℕ) where
       abbrev new : NodeWords
       new = record { vertex = y; cost = k + x; parent = n; edge = e }
 
       vertex-is : y ≡ to graph e
-      vertex-is = enters ∙ sym (to-word (s .vertices) (s .edges) ws e edge-known)
+      vertex-is = enters ∙ ap (λ (i : ℕ). getD ws (edgeAt (s .vertices) i + 1) 0) is ∙ sym (to-word (s .vertices) (s .edges) ws e (h .edge))
 
       pub can-push : CanPushNode (s .edges) (midOf (s .at) (s .end - s .at) ws) new
       can-push =
@@ -76,17 +55,12 @@ module _ {s : Slot} {ws : List ℕ} {k p e : ℕ} (h : CanPushChoice s ws k p) (
                 );
           })
 
-      child-is : nodeOf new ≡ child (domainAt s ws) n k (getD (edgeNumbers (domainAt s ws)) p 0)
-      child-is = λ i. record {
-        vertex = (vertex-is ∙ ap (to graph) number) i;
-        cost = ap (λ (z : ℕ). k + z) (cost-is ∙ ap (cost graph) number) i;
-        parent = n;
-        edge = number i;
-      }
+      child-is : nodeOf new ≡ child (domainAt s ws) n k e
+      child-is = λ i. record { vertex = vertex-is i; cost = k + cost-is i; parent = n; edge = e }
 
       -- ys: the words that came back
       pub pushed : {ys : List ℕ} → length ys ≡ length (midOf (s .at) (s .end - s .at) ws)
           → Left (s .edges) ys (pushNode (treeOf (s .edges) (midOf (s .at) (s .end - s .at) ws)) (nodeOf new))
-          → Holds s ws (putMid (s .at) (s .end - s .at) ws ys) (pushNode (treeAt s ws) (child (domainAt s ws) n k (getD (edgeNumbers (domainAt s ws)) p 0)))
+          → Holds s ws (putMid (s .at) (s .end - s .at) ws ys) (pushNode (treeAt s ws) (child (domainAt s ws) n k e))
       pushed {ys} len left =
           put-holds (h .ready) ys len (left .formed) (left .tree ∙ ap₂ pushNode (tree-lent (h .ready)) child-is)

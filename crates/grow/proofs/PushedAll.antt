@@ -4,18 +4,24 @@ use mathlib.Core.Path.{_≡_, sym, ap, ap₂, subst, _∙_}
 use mathlib.Core.List.{List}
 use Prim.Native.Nat.{ℕ, _+_, _-_, _<_, _≤_}
 use native.Mathlib.Omega.{arith}
-use lib.ListN.{length, getD, take}
-use lib.Seq.{take-all}
+use lib.ListN.{length, getD, take, drop}
+use lib.Seq.{take-all, getD-take}
+use borrow.Rule.Slice.PartMut.{midOf, mid-len}
 use Rattle.model.specs.Graph.{Domain, choices, edgeNumbers, vertexCount}
 use Rattle.model.specs.Tree.{Tree, Node, pushNode, child, pushAll}
-use Rattle.layout.specs.Layout.{Sized, placesAt}
+use Rattle.layout.specs.Layout.{Sized, placesAt, numbersAt, slotsAt}
 use Rattle.layout.specs.Words.{firstPlace}
 use Rattle.layout.proofs.Edges.{edge-count-in, vertex-count-in}
+use Rattle.layout.proofs.Places.{word-behind}
 use Rattle.layout.proofs.Trees.{tree-nodes}
+use Rattle.edges.specs.Edges.{nextAt}
+use Rattle.edges.specs.declared.NextEdge.{NextEdge}
+use Rattle.edges.specs.declared.NextEdge.the-variants.{Edge, End}
+use Rattle.edges.proofs.Found.{Found, edge-found, end-found}
 use Rattle.grow.specs.declared.Slot.{Slot}
-use Rattle.grow.specs.Grow.{wordsIn, treeAt, domainAt, Holds, CanPushChoice, CanPushChoices}
+use Rattle.grow.specs.Grow.{wordsIn, treeAt, domainAt, Ready, Holds, CanPushChoice, CanPushChoices}
 use Rattle.grow.proofs.Slots.{holds-refl, holds-trans, ready-after, domain-after}
-use Rattle.grow.proofs.Choices.{next-place, choice-at, places-fit, push-next, push-few}
+use Rattle.grow.proofs.Choices.{edge-below, next-place, choice-at, places-fit, push-next, push-few}
 
 -- before the edge at a place: those of vertex v stand from `first` up to `last`, and the ones before the place are queued, hung on
 -- node n of cost k
@@ -61,68 +67,107 @@ module _ {s : Slot} {ws : List ℕ} {v k : ℕ} (h : CanPushChoices s ws v k) wh
       holds = let none : first - first ≡ 0 = omega arith in rw none (holds-refl (h .ready));
     }
 
-module _ {s : Slot} {ws left : List ℕ} {n v k first last place : ℕ} (i : Pushing s ws n v k first last left place) where
+module _ {s : Slot} {ws left : List ℕ} {n v k first last place : ℕ} (i : Pushing s ws n v k first last left place)
+    {a b : ℕ} (at : a ≡ numbersAt (s .vertices) (s .edges)) (upto : b ≡ slotsAt (s .vertices) (s .edges)) where
   abbrev d : Domain
   d = domainAt s ws
 
-  pub pushing-end : last ≤ place → Holds s ws left (pushAll d n k (treeAt s ws) (choices d v))
-  pushing-end stop =
-      subst (λ (cs : List ℕ). Holds s ws left (pushAll d n k (treeAt s ws) cs))
-      (take-all (place - first) (choices d v) (omega (arith, i .ends, i .within)))
-      (i .holds)
+  -- the edge numbers that are lent
+  abbrev ns : List ℕ
+  ns = midOf a (b - a) left
 
-  module _ (more : place < last) where
-    vertex-in : v < vertexCount (d .graph)
-    vertex-in = omega (arith, i .can .vertex, vertex-count-in (s .vertices) (s .edges) ws (omega (arith, i .can .ready .held .fits)))
+  now-ready : Ready s left
+  now-ready = ready-after (i .can .ready) (i .holds)
 
-    pub can-push-next : CanPushChoice s left k place
-    can-push-next = record {
-      ready = ready-after (i .can .ready) (i .holds);
-      place = omega (arith, more, i .starts, i .ends, places-fit d v vertex-in (i .can .ready .held .accepted), edge-count-in (s .vertices) (s .edges) ws);
-      cost = i .can .cost;
-      room = omega (arith, more, i .can .room, i .used, i .above, i .ends);
-    }
+  part-fits : b ≤ length left
+  part-fits = omega (arith, upto, now-ready .held .fits)
 
-    abbrev j : ℕ
-    j = place - first
+  numbers-count : length ns ≡ s .edges
+  numbers-count = mid-len a b left part-fits ∙ omega (arith, at, upto)
 
-    in-choices : j < length (choices d v)
-    in-choices = omega (arith, more, i .ends, i .above)
+  vertex-in : v < vertexCount (d .graph)
+  vertex-in = omega (arith, i .can .vertex, vertex-count-in (s .vertices) (s .edges) ws (omega (arith, i .can .ready .held .fits)))
 
-    -- the edge at the place is the next one of the vertex
-    edge-is : getD (edgeNumbers d) place 0 ≡ getD (choices d v) j 0
-    edge-is =
-        let at : place ≡ firstPlace d v + j = omega (arith, i .starts, i .above) in
-        ap (λ (p : ℕ). getD (edgeNumbers d) p 0) at ∙ choice-at d v vertex-in j in-choices
+  last-fits : last ≤ s .edges
+  last-fits = omega (arith, i .starts, i .ends, places-fit d v vertex-in (i .can .ready .held .accepted), edge-count-in (s .vertices) (s .edges) ws)
 
-    abbrev new : Node
-    new = child (domainAt s left) n k (getD (edgeNumbers (domainAt s left)) place 0)
+  module _ {r : NextEdge} (said : r ≡ nextAt ns place last) where
+    pub pushing-end : r ≡ End → Holds s ws left (pushAll d n k (treeAt s ws) (choices d v))
+    pushing-end is =
+        let stop : last ≤ place = end-found ns place last said (omega (arith, numbers-count, last-fits)) is in
+        subst (λ (cs : List ℕ). Holds s ws left (pushAll d n k (treeAt s ws) cs))
+        (take-all (place - first) (choices d v) (omega (arith, i .ends, i .within)))
+        (i .holds)
 
-    module _ {next : List ℕ} (g : Holds s left next (pushNode (treeAt s left) new)) where
-      tree-is : pushNode (treeAt s left) new ≡ pushAll d n k (treeAt s ws) (take (place + 1 - first) (choices d v))
-      tree-is =
-          let after : j + 1 ≡ place + 1 - first = omega (arith, i .above) in
-          ap₂ (λ (t : Tree) (x : Domain). pushNode t (child x n k (getD (edgeNumbers x) place 0))) (i .holds .tree) (domain-after (i .can .ready) (i .holds))
-          ∙ ap (λ (l : ℕ). pushNode (pushAll d n k (treeAt s ws) (take j (choices d v))) (child d n k l)) edge-is
-          ∙ sym (push-next d n k (treeAt s ws) (choices d v) j in-choices)
-          ∙ ap (λ (m : ℕ). pushAll d n k (treeAt s ws) (take m (choices d v))) after
+    module _ {e after : ℕ} (is : r ≡ Edge e after) where
+      found : Found ns place last e after
+      found = edge-found ns place last said is
 
-      pub pushing-one : Pushing s ws n v k first last next (place + 1)
-      pushing-one = record {
-        can = i .can;
-        starts = i .starts;
-        ends = i .ends;
-        above = omega (arith, i .above);
-        within = omega (arith, more);
-        used =
-            omega (
-              arith,
-              i .used,
-              i .above,
-              push-few (treeAt s left) new,
-              tree-nodes (s .vertices) (s .edges) (wordsIn s left),
-              tree-nodes (s .vertices) (s .edges) (wordsIn s next),
-              ap (λ (t : Tree). length (t .nodes)) (g .tree),
-            );
-        holds = subst (Holds s ws next) tree-is (holds-trans (i .holds) g);
-      }
+      edge-at : e ≡ getD (edgeNumbers (domainAt s left)) place 0
+      edge-at =
+          let here : a + place ≡ numbersAt (s .vertices) (s .edges) + place = omega (arith, at) in
+          found .edge
+          ∙ getD-take (b - a) (drop a left) place 0 (omega (arith, at, upto, found .before, last-fits))
+          ∙ word-behind a left place (numbersAt (s .vertices) (s .edges) + place) here
+          ∙ now-ready .held .number place (omega (arith, found .before, last-fits))
+
+      pub can-push-next : CanPushChoice s left k e
+      can-push-next =
+          let count = edge-count-in (s .vertices) (s .edges) left in
+          record {
+            ready = now-ready;
+            edge = omega (arith, edge-at, count, edge-below (domainAt s left) (now-ready .held .accepted) place (omega (arith, count, found .before, last-fits)));
+            cost = i .can .cost;
+            room = omega (arith, found .before, i .can .room, i .used, i .above, i .ends);
+          }
+
+      pub fewer-left : last - after < last - place
+      fewer-left = omega (arith, found .before, found .after)
+
+      abbrev j : ℕ
+      j = place - first
+
+      in-choices : j < length (choices d v)
+      in-choices = omega (arith, found .before, i .ends, i .above)
+
+      -- the edge is the next one of the vertex
+      edge-is : e ≡ getD (choices d v) j 0
+      edge-is =
+          let here : place ≡ firstPlace d v + j = omega (arith, i .starts, i .above) in
+          edge-at
+          ∙ ap (λ (x : Domain). getD (edgeNumbers x) place 0) (domain-after (i .can .ready) (i .holds))
+          ∙ ap (λ (p : ℕ). getD (edgeNumbers d) p 0) here
+          ∙ choice-at d v vertex-in j in-choices
+
+      abbrev new : Node
+      new = child (domainAt s left) n k e
+
+      module _ {next : List ℕ} (g : Holds s left next (pushNode (treeAt s left) new)) where
+        tree-is : pushNode (treeAt s left) new ≡ pushAll d n k (treeAt s ws) (take (after - first) (choices d v))
+        tree-is =
+            let past : j + 1 ≡ after - first = omega (arith, i .above, found .after) in
+            ap₂ (λ (t : Tree) (x : Domain). pushNode t (child x n k e)) (i .holds .tree) (domain-after (i .can .ready) (i .holds))
+            ∙ ap (λ (l : ℕ). pushNode (pushAll d n k (treeAt s ws) (take j (choices d v))) (child d n k l)) edge-is
+            ∙ sym (push-next d n k (treeAt s ws) (choices d v) j in-choices)
+            ∙ ap (λ (m : ℕ). pushAll d n k (treeAt s ws) (take m (choices d v))) past
+
+        pub pushing-one : Pushing s ws n v k first last next after
+        pushing-one = record {
+          can = i .can;
+          starts = i .starts;
+          ends = i .ends;
+          above = omega (arith, i .above, found .after);
+          within = omega (arith, found .before, found .after);
+          used =
+              omega (
+                arith,
+                i .used,
+                i .above,
+                found .after,
+                push-few (treeAt s left) new,
+                tree-nodes (s .vertices) (s .edges) (wordsIn s left),
+                tree-nodes (s .vertices) (s .edges) (wordsIn s next),
+                ap (λ (t : Tree). length (t .nodes)) (g .tree),
+              );
+          holds = subst (Holds s ws next) tree-is (holds-trans (i .holds) g);
+        }

@@ -93,10 +93,10 @@ pub record Holds (s : Slot) (ws left : List ℕ) (u : Tree) : Type 0 where
   pub formed : Formed (s .edges) (wordsIn s left)
   pub tree : treeAt s left ≡ u
 
--- the edge at a place of the edge numbers can be queued, from a node of cost k
-pub record CanPushChoice (s : Slot) (ws : List ℕ) (k p : ℕ) : Type 0 where
+-- edge e can be queued, from a node of cost k
+pub record CanPushChoice (s : Slot) (ws : List ℕ) (k e : ℕ) : Type 0 where
   pub ready : Ready s ws
-  pub place : p < s .edges
+  pub edge : e < s .edges
   pub cost : k ≤ 2100000000
   pub room : getD (wordsIn s ws) 1 0 < 1 + s .edges
 

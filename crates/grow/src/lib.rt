@@ -1,4 +1,6 @@
 // Growing a tree of a cache, at most ten tickets at a time: the Rust's loop `'grow` of `step`.
+use edges::NextEdge;
+use edges::next_edge;
 use layout::wide;
 use model::CostBound;
 use model::Solution;
@@ -10,7 +12,7 @@ ghost use mathlib.Core.Path.{_≡_};
 ghost use Prim.Native.Nat.{_<_, _≤_};
 ghost use lib.ListN.{length, getD};
 ghost use Rattle.model.specs.Lists.{mem};
-ghost use Rattle.model.specs.Graph.{choices, edgeNumbers};
+ghost use Rattle.model.specs.Graph.{choices};
 ghost use Rattle.model.specs.Tree.{pushAll, pushNode, child, above};
 ghost use Rattle.layout.specs.Layout.{Sized};
 ghost use Rattle.grow.specs.Grow.{InUse, Grew, slotOf, treeAt, domainAt, Holds, CanPushChoice, CanPushChoices, CanVisit, Visits, GoesOn};
@@ -121,25 +123,31 @@ fn push_choices(words: &mut [u32], s: Slot, node: u32, vertex: u32, cost: u32)
     requires { ⌜ CanPushChoices s (now words) vertex cost ⌝ }
     ensures { λ _. ⌜ Holds s (now (words .entry)) (now (words .exit)) (pushAll (domainAt s (now (words .entry))) node cost (treeAt s (now (words .entry))) (choices (domainAt s (now (words .entry))) vertex)) ⌝ }
 {
+    let numbers = layout::numbers_at(s.vertices, s.edges);
+    let slots = layout::slots_at(s.vertices, s.edges);
     let mut place = layout::first_place(words, s.vertices, s.edges, wide(vertex));
     let end = layout::first_place(words, s.vertices, s.edges, wide(vertex) + 1);
-    while place < end {
-        push_choice(words, s, node, cost, place);
-        place += 1;
+    loop {
+        let NextEdge::Edge { edge, place: after } = next_edge(&words[numbers..slots], place, end)
+        else {
+            return;
+        };
+        push_choice(words, s, node, cost, edge);
+        place = after;
     }
 }
 
-// Queues the edge at a place of the edge numbers.
-fn push_choice(words: &mut [u32], s: Slot, node: u32, cost: u32, place: usize)
-    requires { ⌜ CanPushChoice s (now words) cost place ⌝ }
-    ensures { λ _. ⌜ Holds s (now (words .entry)) (now (words .exit)) (pushNode (treeAt s (now (words .entry))) (child (domainAt s (now (words .entry))) node cost (getD (edgeNumbers (domainAt s (now (words .entry)))) place 0))) ⌝ }
+// Queues an edge, by its number.
+fn push_choice(words: &mut [u32], s: Slot, node: u32, cost: u32, edge: u32)
+    requires { ⌜ CanPushChoice s (now words) cost edge ⌝ }
+    ensures { λ _. ⌜ Holds s (now (words .entry)) (now (words .exit)) (pushNode (treeAt s (now (words .entry))) (child (domainAt s (now (words .entry))) node cost edge)) ⌝ }
 {
-    let edge = layout::edge_number(words, s.vertices, s.edges, place);
+    let number = wide(edge);
     let child = Node {
-        vertex: layout::edge_word(words, s.vertices, edge, layout::TO),
-        cost: cost + layout::edge_word(words, s.vertices, edge, layout::COST),
+        vertex: layout::edge_word(words, s.vertices, number, layout::TO),
+        cost: cost + layout::edge_word(words, s.vertices, number, layout::COST),
         parent: node,
-        edge: edge as u32,
+        edge,
     };
     let at = s.at;
     let end = s.end;

@@ -161,13 +161,6 @@ pub fn first_place(words: &[u32], vertices: usize, edges: usize, vertex: usize) 
     wide(words[places_at(vertices, edges) + vertex])
 }
 
-pub fn edge_number(words: &[u32], vertices: usize, edges: usize, place: usize) -> usize
-    requires { ⌜ Sized vertices edges × (numbersAt vertices edges + place < length (now words)) ⌝ }
-    ensures { λ r. ⌜ r ≡ getD (now (words .entry)) (numbersAt vertices edges + place) 0 ⌝ }
-{
-    wide(words[numbers_at(vertices, edges) + place])
-}
-
 // A word as a place or a count.
 pub fn wide(x: u32) -> usize
     ensures { λ r. ⌜ r ≡ x ⌝ }
