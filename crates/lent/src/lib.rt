@@ -25,6 +25,15 @@ pub fn step_in_place(words: &mut [u32], search: &mut Search) -> StepReport
     report_of(stepped)
 }
 
+// For callers that hold the record by value: they need no proof by hand.
+pub fn step_lent(words: &mut [u32], search: Search) -> Stepped
+    ensures { λ r. ⌜ Stepping (now (words .entry)) search r (now (words .exit)) ⌝ }
+{
+    let mut held = search;
+    let report = step_in_place(words, &mut held);
+    stepped_of(report, held)
+}
+
 fn search_of(stepped: Stepped) -> Search
     ensures { λ r. ⌜ r ≡ stepped .search ⌝ }
 {
@@ -39,5 +48,16 @@ fn report_of(stepped: Stepped) -> StepReport
     StepReport {
         answer,
         tickets: stepped.tickets,
+    }
+}
+
+fn stepped_of(report: StepReport, search: Search) -> Stepped
+    ensures { λ r. ⌜ r ≡ steppedAs report search ⌝ }
+{
+    let answer = report.answer;
+    Stepped {
+        answer,
+        tickets: report.tickets,
+        search,
     }
 }
