@@ -122,15 +122,15 @@ module _ {M : Type 1} (𝓤 : URA M) (H : Heap 𝓤) (A : Atoms 𝓤) (W : Given
 
   exits : (zs : List ℕ) (s : Search) (t : StepReport) (v : Val) → length zs ≡ length ys → Stepping ys h (steppedAs t s) zs
       → ent 𝓤 (sep 𝓤 (sep 𝓤 (A .lft κ q) (sem 𝓤 H A ftrue))
-          (sep 𝓤 (A .lft κ′ q′) (sep 𝓤 (sem 𝓤 H A (finally u32 γ zs))
-          (sep 𝓤 (A .obs γ′ (T.the-row .coded .code s)) (sep 𝓤 (A .bor κ′ (Body (mem T.the-row) b′ o′ γ′))
-          (sem 𝓤 H A (S.the-row .own t (v ∷ []))))))))
+      (sep 𝓤 (A .lft κ′ q′) (sep 𝓤 (sem 𝓤 H A (finally u32 γ zs))
+      (sep 𝓤 (A .obs γ′ (T.the-row .coded .code s)) (sep 𝓤 (A .bor κ′ (Body (mem T.the-row) b′ o′ γ′))
+      (sem 𝓤 H A (S.the-row .own t (v ∷ []))))))))
       (Post v)
   exits zs s t v l e =
       qed W ((‵ (flft κ q) ⊛ ‵ ftrue) ∷ ‵ (flft κ′ q′) ∷ ‵ (finally u32 γ zs) ∷ ‵ (fobs γ′ (T.the-row .coded .code s)) ∷
-          ‵ (fbor κ′ (Body (mem T.the-row) b′ o′ γ′)) ∷ ‵ (S.the-row .own t (v ∷ [])) ∷ []) ∵
+      ‵ (fbor κ′ (Body (mem T.the-row) b′ o′ γ′)) ∷ ‵ (S.the-row .own t (v ∷ [])) ∷ []) ∵
       suffices ! _ (ends-at 𝓤 H A f.ended stayed (f.clauses 𝓤 H A at-mem run) W (((κ, (κ′, tt)), (q, (q′, tt)), tt, x, at), tt) v t (zs, (s, tt))
-          (l, (tt, tt))) $ says ! e $
+      (l, (tt, tt))) $ says ! e $
       split ! $ move ! (2 ∷ 1 ∷ []) $ join ! $ move ! (1 ∷ 0 ∷ []) $ join ! $ frame ! $
       feqI ! (List Val) (vptr b′ o′ ∷ []) (vptr b′ o′ ∷ []) refl $ move ! (0 ∷ 2 ∷ 3 ∷ []) $ fjoin3 ! $ nothing ! $ move ! (1 ∷ 0 ∷ []) $ fjoin ! $
       move ! (1 ∷ 0 ∷ []) $ fjoin ! $ done !
@@ -172,25 +172,25 @@ module _ {M : Type 1} (𝓤 : URA M) (H : Heap 𝓤) (A : Atoms 𝓤) (W : Given
         pass1 ! (init ! 12 refl (tt, (tt, (record { fits = room .0 }, tt)))) $ pass1 ! (init ! 10 refl (tt, tt)) $ pass0 ! $
         move ! (16 ∷ 17 ∷ 18 ∷ []) $
         opens ! tt T.the-row {h = h} b′ o′ (λ vs. spelt ! T.the-row (Is T.the-row) (shows 𝓤 H A T.the-row) (LL.vals T.the-type T′.the-laws)
-            (LL.tells T.the-type T′.the-laws) fullShare h vs b′ o′ $
+        (LL.tells T.the-type T′.the-laws) fullShare h vs b′ o′ $
         move ! (1 ∷ []) $ peeks ! T.the-row (Is T.the-row) (shows 𝓤 H A T.the-row) h (LL.vals T.the-type T′.the-laws h)
-            (λ is. move ! (1 ∷ 0 ∷ []) $
+        (λ is. move ! (1 ∷ 0 ∷ []) $
         -- [the search's cell; what it owns; the open borrow; obs; auth; _7; …; _6; …; _5; …; _4; …; _3; …; _2; …; _1; …; room for _0; …;
         -- the words; their token]
         assigns ! (of-opd ! (load ! (from ! (hop ! (look ! 15 refl) (stop !))) (look-raw ! 0 refl))) (from ! (stop !))
-            (init ! 13 refl (LL.lawful T.the-type T′.the-laws 𝓤 H A W .typed h _ is .0)) $
+        (init ! 13 refl (LL.lawful T.the-type T′.the-laws 𝓤 H A W .typed h _ is .0)) $
         assigns ! (addr ! (from ! (fld ! refl (hop ! (look-in ! 17 (sub ! 0 refl (whole !))) (stop !))))) (from ! (stop !)) (init ! 7 refl (tt, tt)) $
         assigns ! (agg ! (and-then ! (load ! (from ! (stop !)) (look ! 7 refl))
-            (and-then ! (load ! (from ! (fld ! refl (stop !))) (look-in ! 17 (sub ! 1 refl (whole !)))) (no-more !)))) (from ! (stop !))
-            (init ! 5 refl (tt, (tt, (record { fits = room .0 }, tt)))) $
+        (and-then ! (load ! (from ! (fld ! refl (stop !))) (look-in ! 17 (sub ! 1 refl (whole !)))) (no-more !)))) (from ! (stop !))
+        (init ! 5 refl (tt, (tt, (record { fits = room .0 }, tt)))) $
         move ! (22 ∷ 21 ∷ []) $ use2 W (raw (Step 𝓤 H A at-mem run .pre to-step)) (goes-step is) $
         calls-at ! fm (Step 𝓤 H A at-mem run) known to-step
-            (and-then ! (load ! (from ! (stop !)) (look ! 6 refl)) (and-then ! (load ! (from ! (stop !)) (look ! 14 refl)) (no-more !))) (λ w.
+        (and-then ! (load ! (from ! (stop !)) (look ! 6 refl)) (and-then ! (load ! (from ! (stop !)) (look ! 14 refl)) (no-more !))) (λ w.
         use1 W (later (some (λ (r : Stepped). ((‵ (flft κ q) ⊛ ‵ ftrue) ⊛ ‵ (P.the-row .own r (w ∷ []))) ⊛
-            raw (ensured 𝓤 H A step.ended (step.clauses 𝓤 H A at-mem run) (κ, tt) (wd, (h, tt)) tt r)))) (id⊢ 𝓤 _) $ await ! tt $ pick ! (λ r.
+        raw (ensured 𝓤 H A step.ended (step.clauses 𝓤 H A at-mem run) (κ, tt) (wd, (h, tt)) tt r)))) (id⊢ 𝓤 _) $ await ! tt $ pick ! (λ r.
         split ! $ move ! (1 ∷ []) $
         use1 W (some (λ (zs : List ℕ × (Unit {0} × Unit {0})). ‵ (lasts step.ended (κ, tt) (wd, (h, tt)) zs) ⊛
-            raw (fact 𝓤 (Stepping ys h r (zs .0))))) (id⊢ 𝓤 _) $ pick ! (λ zs.
+        raw (fact 𝓤 (Stepping ys h r (zs .0))))) (id⊢ 𝓤 _) $ pick ! (λ zs.
         split ! $ move ! (1 ∷ []) $ heard ! (Stepping ys h r (zs .0)) (λ e. fsplit ! $ fsplit ! $ move ! (1 ∷ []) $ feqL ! (λ l.
         move ! (2 ∷ []) $ split ! $ move ! (1 ∷ []) $ peeks ! P.the-row (Is P.the-row) (shows 𝓤 H A P.the-row) r (w ∷ []) (λ is₀.
         -- [what r owns; the token; the last list; true; the search's cell; what it owns; the open borrow; obs; auth; _7; …]
@@ -198,13 +198,13 @@ module _ {M : Type 1} (𝓤 : URA M) (H : Heap 𝓤) (A : Atoms 𝓤) (W : Given
         use1 W (raw (SearchOf 𝓤 H A at-mem run .pre (to-search r w))) (goes-search r w) $
         calls-at ! fm (SearchOf 𝓤 H A at-mem run) known₁ (to-search r w) (and-then ! (load ! (from ! (stop !)) (look ! 15 refl)) (no-more !)) (λ w₁.
         use1 W (later (some (λ (s : Search). (‵ ftrue ⊛ ‵ (T.the-row .own s (w₁ ∷ []))) ⊛
-            raw (ensured 𝓤 H A search-of.ended (search-of.clauses 𝓤 H A at-mem run) tt (r, tt) tt s)))) (id⊢ 𝓤 _) $ await ! tt $ pick ! (λ s.
+        raw (ensured 𝓤 H A search-of.ended (search-of.clauses 𝓤 H A at-mem run) tt (r, tt) tt s)))) (id⊢ 𝓤 _) $ await ! tt $ pick ! (λ s.
         split ! $ move ! (1 ∷ []) $ use1 W (raw (fact 𝓤 (s ≡ r .search))) (search-is 𝓤 H A at-mem run r s) $
         heard ! (s ≡ r .search) (λ e₁. split ! $ drop ! $
         peeks ! T.the-row (Is T.the-row) (shows 𝓤 H A T.the-row) s (w₁ ∷ []) (λ is₁.
         land ! (from ! (stop !)) (init ! 13 refl (LL.lawful T.the-type T′.the-laws 𝓤 H A W .typed s _ is₁ .0)) $
         assigns ! (of-opd ! (load ! (from ! (stop !)) (look ! 13 refl))) (from ! (hop ! (look ! 19 refl) (stop !)))
-            (store-raw ! 4 refl (LL.lawful T.the-type T′.the-laws 𝓤 H A W .typed s _ is₁ .0)) $
+        (store-raw ! 4 refl (LL.lawful T.the-type T′.the-laws 𝓤 H A W .typed s _ is₁ .0)) $
         move ! (5 ∷ []) $ drop ! $ move ! (4 ∷ 0 ∷ 5 ∷ 6 ∷ 7 ∷ []) $ closes ! tt T.the-row s (w₁ ∷ []) b′ o′ $
         -- [obs; the search's borrow; its token; the words' token; the last list; true; _7; …; _6; …; _5; …; _4; …; _3; …; _2; …; _1; …;
         -- room for _0; …]
@@ -212,7 +212,7 @@ module _ {M : Type 1} (𝓤 : URA M) (H : Heap 𝓤) (A : Atoms 𝓤) (W : Given
         use1 W (raw (ReportOf 𝓤 H A at-mem run .pre (to-report r w))) (goes-report r w) $
         calls-at ! fm (ReportOf 𝓤 H A at-mem run) known₂ (to-report r w) (and-then ! (load ! (from ! (stop !)) (look ! 13 refl)) (no-more !)) (λ w₂.
         use1 W (later (some (λ (t : StepReport). (‵ ftrue ⊛ ‵ (S.the-row .own t (w₂ ∷ []))) ⊛
-            raw (ensured 𝓤 H A report-of.ended (report-of.clauses 𝓤 H A at-mem run) tt (r, tt) tt t)))) (id⊢ 𝓤 _) $ await ! tt $ pick ! (λ t.
+        raw (ensured 𝓤 H A report-of.ended (report-of.clauses 𝓤 H A at-mem run) tt (r, tt) tt t)))) (id⊢ 𝓤 _) $ await ! tt $ pick ! (λ t.
         split ! $ move ! (1 ∷ []) $ use1 W (raw (fact 𝓤 (t ≡ reportOf r))) (report-is 𝓤 H A at-mem run r t) $
         heard ! (t ≡ reportOf r) (λ e₂. split ! $ drop ! $
         peeks ! S.the-row (Is S.the-row) (shows 𝓤 H A S.the-row) t (w₂ ∷ []) (λ is₂.
@@ -231,15 +231,15 @@ module _ {M : Type 1} (𝓤 : URA M) (H : Heap 𝓤) (A : Atoms 𝓤) (W : Given
   walks C Λ fm known known₁ known₂ = walked 𝓤 H A f.ended stayed (f.clauses 𝓤 H A at-mem run) (WpFn 𝓤 H C Λ code.function)
       (λ κs. (slice-vals, (ptr-vals, tt))) (λ κs. (mut-slice-tells (named 0) (κs .0) u32, (mut-tells (named 1) (κs .1 .0) T.the-row, tt)))
       (λ κs qs bounds a g are. via 𝓤 _ (fst∗ 𝓤 _ (emp 𝓤))
-          (walk 𝓤 H A W at-mem run (κs .0) (κs .1 .0) (qs .0) (qs .1 .0) (a .0 .ptr .0) (a .0 .ptr .1) (a .0 .name) (a .0 .now) (a .1 .0 .ptr .0)
-          (a .1 .0 .ptr .1) (a .1 .0 .name) (a .1 .0 .now) C Λ fm known known₁ known₂ (are .0 .0 .1)))
+      (walk 𝓤 H A W at-mem run (κs .0) (κs .1 .0) (qs .0) (qs .1 .0) (a .0 .ptr .0) (a .0 .ptr .1) (a .0 .name) (a .0 .now) (a .1 .0 .ptr .0)
+      (a .1 .0 .ptr .1) (a .1 .0 .name) (a .1 .0 .now) C Λ fm known known₁ known₂ (are .0 .0 .1)))
 
   goes : AllGo 𝓤 H A W 2 (f.signature .params) (f.ended .kept) stayed
   goes = (goes-gave-slice 𝓤 H A W 2 0 tt (plain (λ _. u32)), (goes-ref 𝓤 H A W 2 1 tt (plain (λ _. T.the-row)), tt))
 
 meets : {M : Type 1} (𝓤 : URA M) (H : Heap 𝓤) (A : Atoms 𝓤) (W : Given 𝓤 H A) (at-mem : Memory → SProp 𝓤) (run : Routine → Fun 𝓤) (𝓣 : Tables 𝓤 H)
     → Triple 𝓤 (𝓣 .C #step) (Step 𝓤 H A at-mem run) → Triple 𝓤 (𝓣 .C #search-of) (SearchOf 𝓤 H A at-mem run) → Triple 𝓤 (𝓣 .C #report-of)
-        (ReportOf 𝓤 H A at-mem run)
+    (ReportOf 𝓤 H A at-mem run)
     → Meets 𝓤 H A f.signature (WpFn 𝓤 H (𝓣 .C) (𝓣 .Λ) code.function) (f.spec 𝓤 H A at-mem run)
 meets 𝓤 H A W at-mem run 𝓣 known known₁ known₂ = walk-meets 𝓤 H A f.ended stayed W (goes 𝓤 H A W at-mem run) (f.clauses 𝓤 H A at-mem run)
     (WpFn 𝓤 H (𝓣 .C) (𝓣 .Λ) code.function) (WpFn-mono 𝓤 H (W .laws) 𝓣 code.function)
@@ -253,6 +253,6 @@ step-in-place-spec 𝓤 H 𝓜 𝓖 𝓡 =
     (meets 𝓤 H (𝓖 .A) (givenOf 𝓤 H 𝓜 𝓖) (𝓜 .mem) (𝓡 .run) (tablesOf 𝓤 H 𝓜 (tables 𝓤 H 𝓜 𝓡 code.env))
     (cited 𝓤 H (Step 𝓤 H (𝓖 .A) (𝓜 .mem) (𝓡 .run)) 𝓜 𝓡 code.env #step step-def.routine code.calls-dijkstra·step (step-thm.met 𝓤 H 𝓜 𝓖 𝓡))
     (cited 𝓤 H (SearchOf 𝓤 H (𝓖 .A) (𝓜 .mem) (𝓡 .run)) 𝓜 𝓡 code.env #search-of search-of-def.routine code.calls-lent·search-of
-        (search-of-thm.met 𝓤 H 𝓜 𝓖 𝓡))
+    (search-of-thm.met 𝓤 H 𝓜 𝓖 𝓡))
     (cited 𝓤 H (ReportOf 𝓤 H (𝓖 .A) (𝓜 .mem) (𝓡 .run)) 𝓜 𝓡 code.env #report-of report-of-def.routine code.calls-lent·report-of
-        (report-of-thm.met 𝓤 H 𝓜 𝓖 𝓡)))
+    (report-of-thm.met 𝓤 H 𝓜 𝓖 𝓡)))

@@ -128,11 +128,11 @@ module _ {M : Type 1} (𝓤 : URA M) (H : Heap 𝓤) (A : Atoms 𝓤) (W : Given
 
   exits : (zs : List ℕ) (p : Stepped) (v : Val) → length zs ≡ length ys → Stepping ys h p zs
       → ent 𝓤 (sep 𝓤 (A .lft κ q) (sep 𝓤 (sem 𝓤 H A (finally u32 γ zs))
-          (sep 𝓤 (sem 𝓤 H A (T.the-row .own h (mach h ∷ []))) (sem 𝓤 H A (P.the-row .own p (v ∷ [])))))) (Post v)
+      (sep 𝓤 (sem 𝓤 H A (T.the-row .own h (mach h ∷ []))) (sem 𝓤 H A (P.the-row .own p (v ∷ [])))))) (Post v)
   exits zs p v l e =
       qed W (‵ (flft κ q) ∷ ‵ (finally u32 γ zs) ∷ ‵ (T.the-row .own h (mach h ∷ [])) ∷ ‵ (P.the-row .own p (v ∷ [])) ∷ []) ∵
       suffices ! _ (ends-at 𝓤 H A f.ended stayed (f.clauses 𝓤 H A at-mem run) W (((κ, tt), (q, tt), tt, x, at), tt) v p (zs, (tt, tt))
-          (l, (tt, tt))) $ says ! e $
+      (l, (tt, tt))) $ says ! e $
       nothing ! $ move ! (1 ∷ 0 ∷ []) $ join ! $ frame ! $ nothing ! $ move ! (2 ∷ 0 ∷ []) $ fjoin ! $ move ! (1 ∷ 0 ∷ []) $ fjoin ! $ done !
 
   -- the reference to the local at c
@@ -147,7 +147,7 @@ module _ {M : Type 1} (𝓤 : URA M) (H : Heap 𝓤) (A : Atoms 𝓤) (W : Given
       (sem 𝓤 H A (MutRef (named 1) (α ∷ []) T.the-row .own (held c δ) (vptr c 0 ∷ []))))) (InPlace 𝓤 H A at-mem run .pre (to-in-place α c δ))
   goes-in-place α c δ =
       qed W ((‵ (flft κ q) ⊛ ‵ (flft (α ∷ []) fullShare)) ∷ ‵ (MutSlice (named 0) κ u32 .own wd (sl ∷ [])) ∷
-          ‵ (MutRef (named 1) (α ∷ []) T.the-row .own (held c δ) (vptr c 0 ∷ [])) ∷ []) ∵
+      ‵ (MutRef (named 1) (α ∷ []) T.the-row .own (held c δ) (vptr c 0 ∷ [])) ∷ []) ∵
       split ! $ nothing ! $ move ! (2 ∷ 0 ∷ []) $ join ! $ move ! (1 ∷ 0 ∷ []) $ join ! $
       nothing ! $ move ! (3 ∷ 0 ∷ []) $ fjoin ! $ move ! (2 ∷ 0 ∷ []) $ fjoin ! $ move ! (1 ∷ 0 ∷ []) $ join ! $ frame ! $ done !
 
@@ -170,34 +170,34 @@ module _ {M : Type 1} (𝓤 : URA M) (H : Heap 𝓤) (A : Atoms 𝓤) (W : Given
         -- [the words; their token; what the record owns; true; true]
         enter ! C Λ code.function (sl ∷ mach h ∷ []) _ $
         alloc1 ! (λ l₀. alloc1 ! (λ l₁. alloc1 ! (λ l₂. alloc1 !
-            (λ l₃. alloc1 ! (λ l₄. alloc1 ! (λ l₅. alloc1 ! (λ l₆. alloc1 ! (λ l₇. alloc1 ! (λ l₈. alloc0 ! $ params1 ! $
+        (λ l₃. alloc1 ! (λ l₄. alloc1 ! (λ l₅. alloc1 ! (λ l₆. alloc1 ! (λ l₇. alloc1 ! (λ l₈. alloc0 ! $ params1 ! $
         pass1 ! (init ! 14 refl (tt, (tt, (record { fits = room .0 }, tt)))) $
         pass1 ! (init ! 12 refl (LL.lawful T.the-type T′.the-laws 𝓤 H A W .typed h _ is .0)) $ pass0 ! $
         -- [_8; …; _7; …; _6; …; _5; …; _4; …; _3; …; _2; …; _1; …; room for _0; …; the words; their token; what the record owns]
         assigns ! (of-opd ! (load ! (from ! (stop !)) (look ! 12 refl))) (from ! (stop !))
-            (init ! 10 refl (LL.lawful T.the-type T′.the-laws 𝓤 H A W .typed h _ is .0)) $
+        (init ! 10 refl (LL.lawful T.the-type T′.the-laws 𝓤 H A W .typed h _ is .0)) $
         assigns ! (addr ! (from ! (fld ! refl (hop ! (look-in ! 14 (sub ! 0 refl (whole !))) (stop !))))) (from ! (stop !)) (init ! 6 refl (tt, tt)) $
         assigns ! (agg ! (and-then ! (load ! (from ! (stop !)) (look ! 6 refl))
-            (and-then ! (load ! (from ! (fld ! refl (stop !))) (look-in ! 14 (sub ! 1 refl (whole !)))) (no-more !)))) (from ! (stop !))
-            (init ! 4 refl (tt, (tt, (record { fits = room .0 }, tt)))) $
+        (and-then ! (load ! (from ! (fld ! refl (stop !))) (look-in ! 14 (sub ! 1 refl (whole !)))) (no-more !)))) (from ! (stop !))
+        (init ! 4 refl (tt, (tt, (record { fits = room .0 }, tt)))) $
         assigns ! (addr ! (from ! (stop !))) (from ! (stop !)) (init ! 2 refl (tt, tt)) $
         -- a lifetime is made, and the local is lent for it
         move ! (10 ∷ []) $ use1 W (‵ (partAt T.the-row fullShare h l₃ 0)) (goes-in 𝓤 H A W h l₃ is) $
         lft-new ! tt (λ α. move ! (1 ∷ []) $
         use1 W (later (some (λ (δ : GName). ‵ (MutRef (named 1) (α ∷ []) T.the-row .own (held l₃ δ) (vptr l₃ 0 ∷ [])) ⊛
-            ‵ (flent (α ∷ []) (Body (mem T.the-row) l₃ 0 δ)))))
+        ‵ (flent (α ∷ []) (Body (mem T.the-row) l₃ 0 δ)))))
         (lends-ref 𝓤 H A W T.the-row (named 1) (α ∷ []) h l₃ 0) $ await ! tt $ pick ! (λ δ. split ! $
         -- [the reference; the lender's part; α's token; _8; …; _7; …; _6; …; _5; …; _4; …; …; _2; …; _1; …; room for _0; …; the words;
         -- their token; what the record owns]
         move ! (21 ∷ 2 ∷ 20 ∷ 0 ∷ []) $ join ! $ use3 W (raw (InPlace 𝓤 H A at-mem run .pre (to-in-place α l₃ δ))) (goes-in-place α l₃ δ) $
         calls-at ! fm (InPlace 𝓤 H A at-mem run) known (to-in-place α l₃ δ)
-            (and-then ! (load ! (from ! (stop !)) (look ! 6 refl)) (and-then ! (load ! (from ! (stop !)) (look ! 4 refl)) (no-more !))) (λ w.
+        (and-then ! (load ! (from ! (stop !)) (look ! 6 refl)) (and-then ! (load ! (from ! (stop !)) (look ! 4 refl)) (no-more !))) (λ w.
         use1 W (later (some (λ (r : StepReport). ((‵ (flft κ q) ⊛ ‵ (flft (α ∷ []) fullShare) ⊛ ‵ ftrue) ⊛ ‵ (S.the-row .own r (w ∷ []))) ⊛
-            raw (ensured 𝓤 H A in-place.ended (in-place.clauses 𝓤 H A at-mem run) (κ, (α ∷ [], tt)) (wd, (held l₃ δ, tt)) tt r))))
-            (id⊢ 𝓤 _) $ await ! tt $ pick ! (λ r.
+        raw (ensured 𝓤 H A in-place.ended (in-place.clauses 𝓤 H A at-mem run) (κ, (α ∷ [], tt)) (wd, (held l₃ δ, tt)) tt r))))
+        (id⊢ 𝓤 _) $ await ! tt $ pick ! (λ r.
         split ! $ move ! (1 ∷ []) $
         use1 W (some (λ (zs : List ℕ × (Search × Unit {0})). ‵ (lasts in-place.ended (κ, (α ∷ [], tt)) (wd, (held l₃ δ, tt)) zs) ⊛
-            raw (fact 𝓤 (Stepping ys h (steppedAs r (zs .1 .0)) (zs .0))))) (id⊢ 𝓤 _) $ pick ! (λ zs.
+        raw (fact 𝓤 (Stepping ys h (steppedAs r (zs .1 .0)) (zs .0))))) (id⊢ 𝓤 _) $ pick ! (λ zs.
         split ! $ move ! (1 ∷ []) $ heard ! (Stepping ys h (steppedAs r (zs .1 .0)) (zs .0)) (λ e. fsplit ! $ fsplit ! $ move ! (1 ∷ []) $
         feqL ! (λ l.
         -- [the last list; the last record; the tokens and the report; the lender's part; _8; …]
@@ -206,19 +206,19 @@ module _ {M : Type 1} (𝓤 : URA M) (H : Heap 𝓤) (A : Atoms 𝓤) (W : Given
         lft-end ! tt $ move ! (0 ∷ 7 ∷ 4 ∷ []) $
         use3 W (later (‵ (partAt T.the-row fullShare (zs .1 .0) l₃ 0))) (ref-back 𝓤 H A W T.the-row (α ∷ []) δ (zs .1 .0) l₃ 0) $ await ! tt $
         use1 W (given (Is T.the-row (zs .1 .0) (mach (zs .1 .0) ∷ [])) (‵ (fat fullShare T′.mir l₃ 0 (mach (zs .1 .0)))))
-            (comes-out 𝓤 H A W (zs .1 .0) l₃) $ learn ! (λ is₁.
+        (comes-out 𝓤 H A W (zs .1 .0) l₃) $ learn ! (λ is₁.
         move ! (3 ∷ []) $ facts ! S.the-row (Is S.the-row) (shows 𝓤 H A S.the-row) r (w ∷ []) (λ is₀.
         -- [_3; true; the words' token; true; the last list; _8; …; _7; …; _6; …; _5; …; _4; …; …; _2; …; _1; …; room for _0; …;
         -- what the record owns]
         land ! (from ! (stop !)) (init ! 13 refl (LL.lawful S.the-type S′.the-laws 𝓤 H A W .typed r _ is₀ .0)) $
         assigns ! (of-opd ! (load ! (from ! (stop !)) (look ! 0 refl))) (from ! (stop !))
-            (init ! 5 refl (LL.lawful T.the-type T′.the-laws 𝓤 H A W .typed (zs .1 .0) _ is₁ .0)) $
+        (init ! 5 refl (LL.lawful T.the-type T′.the-laws 𝓤 H A W .typed (zs .1 .0) _ is₁ .0)) $
         use0 W (raw (SteppedOf 𝓤 H A at-mem run .pre (to-stepped r (zs .1 .0) w))) (goes-stepped r (zs .1 .0) w is₀ is₁) $
         calls-at ! fm (SteppedOf 𝓤 H A at-mem run) known₁ (to-stepped r (zs .1 .0) w)
-            (and-then ! (load ! (from ! (stop !)) (look ! 14 refl)) (and-then ! (load ! (from ! (stop !)) (look ! 6 refl)) (no-more !))) (λ w₁.
+        (and-then ! (load ! (from ! (stop !)) (look ! 14 refl)) (and-then ! (load ! (from ! (stop !)) (look ! 6 refl)) (no-more !))) (λ w₁.
         use1 W (later (some (λ (p : Stepped). (‵ ftrue ⊛ ‵ (P.the-row .own p (w₁ ∷ []))) ⊛
-            raw (ensured 𝓤 H A stepped-of.ended (stepped-of.clauses 𝓤 H A at-mem run) tt (r, (zs .1 .0, tt)) tt p)))) (id⊢ 𝓤 _) $ await ! tt $ pick !
-            (λ p.
+        raw (ensured 𝓤 H A stepped-of.ended (stepped-of.clauses 𝓤 H A at-mem run) tt (r, (zs .1 .0, tt)) tt p)))) (id⊢ 𝓤 _) $ await ! tt $ pick !
+        (λ p.
         split ! $ move ! (1 ∷ []) $ use1 W (raw (fact 𝓤 (p ≡ steppedAs r (zs .1 .0)))) (stepped-is 𝓤 H A at-mem run r (zs .1 .0) p) $
         heard ! (p ≡ steppedAs r (zs .1 .0)) (λ e₁. split ! $ drop ! $
         peeks ! P.the-row (Is P.the-row) (shows 𝓤 H A P.the-row) p (w₁ ∷ []) (λ is₂.
@@ -236,10 +236,10 @@ module _ {M : Type 1} (𝓤 : URA M) (H : Heap 𝓤) (A : Atoms 𝓤) (W : Given
       → Walks 𝓤 H A f.ended stayed (WpFn 𝓤 H C Λ code.function) (f.clauses 𝓤 H A at-mem run)
   walks C Λ fm known known₁ = walked 𝓤 H A f.ended stayed (f.clauses 𝓤 H A at-mem run) (WpFn 𝓤 H C Λ code.function)
       (λ κs. (slice-vals, (LL.vals T.the-type T′.the-laws, tt)))
-          (λ κs. (mut-slice-tells (named 0) (κs .0) u32, (LL.tells T.the-type T′.the-laws, tt)))
+      (λ κs. (mut-slice-tells (named 0) (κs .0) u32, (LL.tells T.the-type T′.the-laws, tt)))
       (λ κs qs bounds a g are. via 𝓤 _ (fst∗ 𝓤 _ (emp 𝓤))
       (walk 𝓤 H A W at-mem run (κs .0) (qs .0) (a .0 .ptr .0) (a .0 .ptr .1) (a .0 .name) (a .0 .now) (a .1 .0) C Λ fm known known₁ (are .0 .0 .1)
-          (are .1 .0)))
+      (are .1 .0)))
 
   goes : AllGo 𝓤 H A W 1 (f.signature .params) (f.ended .kept) stayed
   goes = (goes-gave-slice 𝓤 H A W 1 0 tt (plain (λ _. u32)), (goes-none 𝓤 H A W 1 (λ _. T.the-row) yes (λ κs x f. refl), tt))
@@ -258,6 +258,6 @@ step-lent-spec 𝓤 H 𝓜 𝓖 𝓡 =
     (tables 𝓤 H 𝓜 𝓡 code.env .C) (tables 𝓤 H 𝓜 𝓡 code.env .Λ) #step-lent code.function (code.unfolded 𝓤 H 𝓜 𝓡)
     (meets 𝓤 H (𝓖 .A) (givenOf 𝓤 H 𝓜 𝓖) (𝓜 .mem) (𝓡 .run) (tablesOf 𝓤 H 𝓜 (tables 𝓤 H 𝓜 𝓡 code.env))
     (cited 𝓤 H (InPlace 𝓤 H (𝓖 .A) (𝓜 .mem) (𝓡 .run)) 𝓜 𝓡 code.env #in-place in-place-def.routine code.calls-lent·step-in-place
-        (in-place-thm.met 𝓤 H 𝓜 𝓖 𝓡))
+    (in-place-thm.met 𝓤 H 𝓜 𝓖 𝓡))
     (cited 𝓤 H (SteppedOf 𝓤 H (𝓖 .A) (𝓜 .mem) (𝓡 .run)) 𝓜 𝓡 code.env #stepped-of stepped-of-def.routine code.calls-lent·stepped-of
-        (stepped-of-thm.met 𝓤 H 𝓜 𝓖 𝓡)))
+    (stepped-of-thm.met 𝓤 H 𝓜 𝓖 𝓡)))
