@@ -20,7 +20,8 @@ use Rattle.model.specs.Demands.{RefusedInitialize, RefusedStep, RefusedRetrace}
 use Rattle.model.proofs.Demand1.{demand-1 as model-demand-1}
 use Rattle.layout.specs.Read.{directionOf, readCache}
 use Rattle.layout.specs.Sound.{soundWordsb}
-use Rattle.dijkstra.specs.Calls.{initializeIf, initializeWords, initializedWords, Initializing, stepSoundIf, stepWords, Leaves, Stepping, retraceIf, retraceWords, Retracing}
+use Rattle.checked.specs.Step.{Leaves}
+use Rattle.dijkstra.specs.Calls.{initializeIf, initializeWords, initializedWords, Initializing, stepSoundIf, stepWords, Stepping, retraceIf, retraceWords, Retracing}
 use Rattle.dijkstra.specs.Demands.{Demand1}
 
 -- ---- the model's law, with refusal 7 before it

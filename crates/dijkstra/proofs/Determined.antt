@@ -29,7 +29,8 @@ use Rattle.sound.specs.Facts.{SoundIn}
 use Rattle.sound.proofs.Slots.{slot-length}
 use Rattle.sound.proofs.Facts.{sound-words-at, trees-length, tree-read}
 use Rattle.turn.specs.Turn.{InSlot, Apart}
-use Rattle.dijkstra.specs.Calls.{stepSoundIf, stepWords, Leaves}
+use Rattle.checked.specs.Step.{Leaves}
+use Rattle.dijkstra.specs.Calls.{stepSoundIf, stepWords}
 use Rattle.dijkstra.specs.Demands.{QueueWord, Determined}
 use Rattle.dijkstra.proofs.Histories.{step-is}
 
@@ -124,14 +125,14 @@ module _ (ws : List ℕ) (s : Search) where
           ]
 
       -- words that differ would stand in no slot of an entry, and there both are as they were
-      apart-word : (j : ℕ) → (QueueWord ws s left j → ⊥) → getD left j 0 ≡ getD left′ j 0
+      pub apart-word : (j : ℕ) → (QueueWord ws s left j → ⊥) → getD left j 0 ≡ getD left′ j 0
       apart-word j other = elim (ℕ-discrete (getD left j 0) (getD left′ j 0)) [
         | yes e ↦ e
         | no n ↦ let out : InSlot ws s j → ⊥ = λ x. n (inside j other x) in a .word j out ∙ sym (b .word j out)
       ]
 
   -- the trees of the entries of a valid record are in use
-  entries-in-use : stepWords ws s .reply ≡ answered waiting → (i : ℕ) → i < s .«tree_count» → entry s i .tree < u
+  pub entries-in-use : stepWords ws s .reply ≡ answered waiting → (i : ℕ) → i < s .«tree_count» → entry s i .tree < u
   entries-in-use e i h =
       let ok = sound-if (soundWordsb ws) (readCache ws) s waiting e in
       let v = valid-at _ _ s (valid-if (readCache ws) s waiting (sym (ap (λ (x : AfterStep). x .reply) (step-is ws ok s)) ∙ e)) in
@@ -144,7 +145,7 @@ module _ (ws : List ℕ) (s : Search) where
   leaves-length (refused n line) left h = ap length h
 
   module _ (left left′ : List ℕ) (cache : readCache left ≡ readCache left′) where
-    same-word : left ≡ ws → left′ ≡ ws → (j : ℕ) → (QueueWord ws s left j → ⊥) → getD left j 0 ≡ getD left′ j 0
+    pub same-word : left ≡ ws → left′ ≡ ws → (j : ℕ) → (QueueWord ws s left j → ⊥) → getD left j 0 ≡ getD left′ j 0
     same-word p q j other = ap (λ (x : List ℕ). getD x j 0) (p ∙ sym q)
 
     leaves-word : soundWordsb left ≡ soundWordsb ws → soundWordsb left′ ≡ soundWordsb ws → (x : Reply Status) → stepWords ws s .reply ≡ x

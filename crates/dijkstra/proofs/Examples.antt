@@ -26,7 +26,7 @@ use Rattle.plant.specs.Plant.{plantedAll}
 use Rattle.dijkstra.specs.Calls.{initializeWords, initializedWords, Initializing, stepWords, Stepping, retraceWords, notOpened}
 
 -- 01's chart with three slots, none of them in use
-unfoldable bare : List ℕ
+unfoldable pub bare : List ℕ
 unfolding sample
 bare = set (take 26 sample ++ replicate 81 0) 4 0
 
@@ -65,11 +65,11 @@ planted = refl
 -- ---- a step: 7, 8
 
 -- a search from 0 to 2, and the words that its opening left
-unfoldable words0 : List ℕ
+unfoldable pub words0 : List ℕ
 unfolding soundWordsb bare initialize plantedAll
 words0 = initializedWords (initializeWords bare (0 ∷ []) (2 ∷ []) .reply) bare (0 ∷ [])
 
-unfoldable search0 : Search
+unfoldable pub search0 : Search
 unfolding soundWordsb bare initialize
 search0 = initializeWords bare (0 ∷ []) (2 ∷ []) .search
 

@@ -1,7 +1,6 @@
 -- Laws that belong to no one function.
 pub mod Goals
-pub mod Nodes
-pub mod Finished
+pub mod RetracedNode
 pub mod Opened
 pub mod Initialized
 pub mod Stepped

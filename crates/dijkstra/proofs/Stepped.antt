@@ -1,77 +1,43 @@
--- `step`, refused, finished, and over the entries.
+-- `step`: refused where the words are not sound, and on sound words what it promises there.
 -- Assumes nothing.
 use mathlib.Core.Path.{_≡_, refl, sym, ap, _∙_, subst}
-use mathlib.Core.Bool.{Bool, true, false, not}
+use mathlib.Core.Bool.{Bool, true, false}
 use mathlib.Core.List.{List}
-use mathlib.Core.Option.{none}
 use Prim.Native.Nat.{ℕ}
-use Rattle.model.specs.declared.Refusal.the-variants.{Unsound, InvalidSearch}
-use Rattle.model.specs.declared.SearchStatus.{SearchStatus}
-use Rattle.model.specs.declared.SearchStatus.the-variants.{Incomplete}
-use Rattle.model.specs.declared.StepAnswer.the-variants as stepping
+use Rattle.model.specs.declared.Refusal.the-variants.{Unsound}
 use Rattle.model.specs.declared.Search.{Search}
 use Rattle.model.specs.declared.Stepped.{Stepped}
-use Rattle.model.specs.Answers.{Reply, answered, refused, Status, waiting, solved, noPath, status, stepReply}
-use Rattle.model.specs.Valid.{valid}
-use Rattle.model.specs.Calls.{Cache, AfterStep, orElse, stepIf, stepBy, step, finalStatus}
-use Rattle.model.proofs.Faults.{step-if}
+use Rattle.model.specs.Answers.{Reply, Status}
+use Rattle.model.specs.Calls.{AfterStep}
 use Rattle.layout.specs.Read.{readCache}
 use Rattle.layout.specs.Sound.{soundWordsb}
 use Rattle.sound.proofs.Facts.{at-sound-words}
-use Rattle.turn.specs.declared.Turned.{Turned}
-use Rattle.turn.specs.Turn.{Steps}
-use Rattle.dijkstra.specs.Calls.{stepSoundIf, stepWords, Leaves, Stepping, notStepped}
-
--- words that stay
-leaves-same : (r : Reply Status) (ws : List ℕ) (s : Search) → Leaves r ws s ws
-leaves-same (answered waiting) ws s = record { len = refl; word = λ j out. refl }
-leaves-same (answered (solved k m)) ws s = refl
-leaves-same (answered noPath) ws s = refl
-leaves-same (refused n line) ws s = refl
+use Rattle.checked.specs.Step.{Leaves, Advances, notStepped}
+use Rattle.checked.proofs.Advanced.{leaves-same}
+use Rattle.dijkstra.specs.Calls.{stepSoundIf, stepWords, Stepping}
+use Rattle.dijkstra.proofs.Histories.{step-is}
 
 module _ (ws : List ℕ) (s : Search) where
-  abbrev c : Cache
-  c = readCache ws
-
-  -- a step that leaves words and record
-  same-as : (r : Stepped) (reply : Reply Status) → stepWords ws s ≡ record { cache = c; search = s; reply = reply; tickets = 0 }
-      → r ≡ record { answer = r .answer; tickets = 0; search = s } → stepReply (r .answer) ≡ reply → Stepping ws s r ws
-  same-as r reply e is a = record {
-    answer = a ∙ sym (ap (λ (x : AfterStep). x .reply) e);
-    tickets = ap (λ (x : Stepped). x .tickets) is ∙ sym (ap (λ (x : AfterStep). x .tickets) e);
-    search = ap (λ (x : Stepped). x .search) is ∙ sym (ap (λ (x : AfterStep). x .search) e);
-    cache = sym (ap (λ (x : AfterStep). x .cache) e);
-    sound = refl;
-    words = leaves-same (stepWords ws s .reply) ws s;
-  }
-
   pub not-sound : soundWordsb ws ≡ false → Stepping ws s (notStepped s Unsound) ws
-  not-sound e = same-as (notStepped s Unsound) (refused 7 0) (ap (λ (b : Bool). stepSoundIf b c s) e) refl refl
+  not-sound e =
+      let is = ap (λ (b : Bool). stepSoundIf b (readCache ws) s) e in
+      record {
+        answer = sym (ap (λ (x : AfterStep). x .reply) is);
+        tickets = sym (ap (λ (x : AfterStep). x .tickets) is);
+        search = sym (ap (λ (x : AfterStep). x .search) is);
+        cache = sym (ap (λ (x : AfterStep). x .cache) is);
+        sound = refl;
+        words = leaves-same (stepWords ws s .reply) ws s;
+      }
 
-  module _ (ok : soundWordsb ws ≡ true) where
-    given : stepWords ws s ≡ step c s
-    given = ap (λ (b : Bool). stepSoundIf b c s) ok
-
-    pub not-valid : valid (c .domain) (c .trees) s ≡ false → Stepping ws s (notStepped s InvalidSearch) ws
-    unfolding step
-    not-valid e = same-as (notStepped s InvalidSearch) (refused 8 0) (given ∙ ap (λ (v : Bool). stepBy (orElse (not v) 8 none) c s) e) refl refl
-
-    module _ (fine : valid (c .domain) (c .trees) s ≡ true) where
-      goes : {x : Bool} → s .exhausted ≡ x → stepWords ws s ≡ stepIf x c s
-      goes e = given ∙ step-if c s fine ∙ ap (λ (x : Bool). stepIf x c s) e
-
-      pub finished : s .exhausted ≡ true → (r : SearchStatus) → status r ≡ finalStatus (c .trees) s
-          → Stepping ws s (record { answer = stepping.Status r; tickets = 0; search = s }) ws
-      finished e r f =
-          same-as (record { answer = stepping.Status r; tickets = 0; search = s }) (answered (finalStatus (c .trees) s)) (goes e) refl (ap answered f)
-
-      pub walked : s .exhausted ≡ false → (t : Turned) (left : List ℕ) → Steps ws s t left
-          → Stepping ws s (record { answer = stepping.Status Incomplete; tickets = t .tickets; search = t .search }) left
-      walked e t left w = record {
-        answer = sym (ap (λ (x : AfterStep). x .reply) (goes e));
-        tickets = w .tickets ∙ sym (ap (λ (x : AfterStep). x .tickets) (goes e));
-        search = w .search ∙ sym (ap (λ (x : AfterStep). x .search) (goes e));
-        cache = w .cache ∙ sym (ap (λ (x : AfterStep). x .cache) (goes e));
-        sound = at-sound-words left (w .sound) ∙ sym ok;
-        words = subst (λ (r : Reply Status). Leaves r ws s left) (sym (ap (λ (x : AfterStep). x .reply) (goes e))) (w .apart);
+  pub on-sound : soundWordsb ws ≡ true → (r : Stepped) (left : List ℕ) → Advances ws s r left → Stepping ws s r left
+  on-sound ok r left a =
+      let is = step-is ws ok s in
+      record {
+        answer = a .answer ∙ sym (ap (λ (x : AfterStep). x .reply) is);
+        tickets = a .tickets ∙ sym (ap (λ (x : AfterStep). x .tickets) is);
+        search = a .search ∙ sym (ap (λ (x : AfterStep). x .search) is);
+        cache = a .cache ∙ sym (ap (λ (x : AfterStep). x .cache) is);
+        sound = at-sound-words left (a .sound) ∙ sym ok;
+        words = subst (λ (x : Reply Status). Leaves x ws s left) (sym (ap (λ (x : AfterStep). x .reply) is)) (a .words);
       }

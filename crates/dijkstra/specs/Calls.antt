@@ -10,22 +10,19 @@ use lib.ListN.{length, getD, drop}
 use Rattle.model.specs.declared.Refusal.{Refusal}
 use Rattle.model.specs.declared.Refusal.the-variants.{TreesFull}
 use Rattle.model.specs.declared.InitializeAnswer.the-variants as initializing
-use Rattle.model.specs.declared.StepAnswer.the-variants as stepping
 use Rattle.model.specs.declared.RetraceAnswer.{RetraceAnswer}
 use Rattle.model.specs.declared.Search.{Search}
 use Rattle.model.specs.declared.SearchOpened.{SearchOpened}
 use Rattle.model.specs.declared.Stepped.{Stepped}
-use Rattle.model.specs.Answers.{Reply, answered, refused, Status, waiting, solved, noPath, initializeReply, stepReply, retraceReply}
+use Rattle.model.specs.Answers.{Reply, answered, refused, initializeReply, stepReply, retraceReply}
 use Rattle.model.specs.Sound.{tree, starts}
 use Rattle.model.specs.Path.{movesOf, words}
 use Rattle.model.specs.Search.{emptySearch, newSearch, withGoal, rootsOf}
 use Rattle.model.specs.Calls.{Cache, AfterInitialize, initialize, AfterStep, step, AfterRetrace, retrace, written}
 use Rattle.layout.specs.Read.{directionOf, readCache}
 use Rattle.layout.specs.Sound.{soundWordsb}
-use Rattle.turn.specs.Turn.{Apart}
+use Rattle.checked.specs.Step.{Leaves}
 use Rattle.plant.specs.Plant.{CanPlan, plantedFor, plantedAll, withNew, PlantsAll}
-use Rattle.memory.specs.Memory.{FitsWords}
-use Rattle.sound.specs.Facts.{SoundWords}
 
 -- ---- `initialize`: "7, 4, 3, 6"
 
@@ -64,13 +61,6 @@ stepSoundIf true c s = step c s
 abbrev pub stepWords : List ℕ → Search → AfterStep
 stepWords ws s = stepSoundIf (soundWordsb ws) (readCache ws) s
 
--- a refused or finished search's step leaves the words; another's leaves those outside of its entries' slots
-abbrev pub Leaves : Reply Status → List ℕ → Search → List ℕ → Type 0
-Leaves (answered waiting) ws s left = Apart ws s left
-Leaves (answered (solved k m)) ws s left = left ≡ ws
-Leaves (answered noPath) ws s left = left ≡ ws
-Leaves (refused n line) ws s left = left ≡ ws
-
 -- the promise of `step`: answer, tickets and record are the model's, and so is the cache that the words left hold. What is free is the
 -- arrangement of the queue words in the slots of the entries: which nodes wait is given, and sound words keep heap order.
 pub record Stepping (ws : List ℕ) (s : Search) (r : Stepped) (left : List ℕ) : Type 0 where
@@ -103,9 +93,6 @@ Retracing ws s p r q = afterRetrace r q ≡ retraceWords ws s p
 abbrev pub notOpened : Refusal → SearchOpened
 notOpened f = record { answer = initializing.Refused f 0; search = emptySearch }
 
-abbrev pub notStepped : Search → Refusal → Stepped
-notStepped s f = record { answer = stepping.Refused f 0; tickets = 0; search = s }
-
 pub record CanOpenSearch (ws vs gs : List ℕ) : Type 0 where
   pub plan : CanPlan ws vs
   pub goals : length gs ≤ 64
@@ -132,10 +119,6 @@ pub record CanTakeGoals (s : Search) (gs : List ℕ) : Type 0 where
 abbrev pub withGoals : Search → List ℕ → Search
 withGoals s [] = s
 withGoals s (g ∷ gs) = withGoals (withGoal s g) gs
-
-pub record CanShow (ws : List ℕ) (s : Search) : Type 0 where
-  pub sound : SoundWords ws
-  pub fits : FitsWords ws s
 
 -- the path to node n of the tree in a slot, if the slice p has room
 abbrev pub retraceNodeIf : Bool → List ℕ → ℕ → ℕ → List ℕ → AfterRetrace

@@ -1,5 +1,7 @@
 // The three calls on a cache: the Rust's `Dijkstra` and `BackwardDijkstra`. None asks for anything: a call that cannot be answered
 // is refused, and leaves words, record and path as they were.
+use checked::moves;
+use checked::not_stepped;
 use grow::slot_of;
 use layout::wide;
 use memory::MAX_ENTRIES;
@@ -11,19 +13,11 @@ use model::Refusal;
 use model::RetraceAnswer;
 use model::Search;
 use model::SearchOpened;
-use model::SearchStatus;
 use model::Solution;
-use model::StepAnswer;
 use model::Stepped;
 ghost use mathlib.Core.Path.{_≡_};
-ghost use Rattle.model.specs.Answers.{status};
-ghost use Rattle.model.specs.Tree.{node as Tree·node};
-ghost use Rattle.model.specs.Sound.{tree};
-ghost use Rattle.model.specs.Path.{movesOf};
-ghost use Rattle.model.specs.Calls.{finalStatus};
-ghost use Rattle.layout.specs.Read.{readCache};
 ghost use Rattle.memory.specs.Memory.{HasNode};
-ghost use Rattle.dijkstra.specs.Calls.{Initializing, Stepping, Retracing, notOpened, notStepped, CanOpenSearch, OpensSearch, CanTakeGoals, withGoals, CanShow, RetracesNode};
+ghost use Rattle.dijkstra.specs.Calls.{Initializing, Stepping, Retracing, notOpened, CanOpenSearch, OpensSearch, CanTakeGoals, withGoals, RetracesNode};
 
 // Opens a search from the starts to the goals. On a backward cache its trees root at the goals and the starts are looked for.
 pub fn initialize(words: &mut [u32], starts: &[u32], goals: &[u32]) -> SearchOpened
@@ -100,76 +94,7 @@ pub fn step(words: &mut [u32], search: Search) -> Stepped
     if !sound::is_sound(words) {
         return not_stepped(search, Refusal::Unsound);
     }
-    if !is_valid(words, search) {
-        return not_stepped(search, Refusal::InvalidSearch);
-    }
-    if search.exhausted {
-        let status = final_status(words, search);
-        return Stepped {
-            answer: StepAnswer::Status(status),
-            tickets: 0,
-            search,
-        };
-    }
-    let turned = turn::step_trees(words, search);
-    let next = turned.search;
-    Stepped {
-        answer: StepAnswer::Status(SearchStatus::Incomplete),
-        tickets: turned.tickets,
-        search: next,
-    }
-}
-
-fn not_stepped(search: Search, refusal: Refusal) -> Stepped
-    ensures { λ r. ⌜ r ≡ notStepped search refusal ⌝ }
-{
-    Stepped {
-        answer: StepAnswer::Refused { refusal, line: 0 },
-        tickets: 0,
-        search,
-    }
-}
-
-// The answer of a finished search.
-fn final_status(words: &[u32], search: Search) -> SearchStatus
-    requires { ⌜ CanShow (now words) search ⌝ }
-    ensures { λ r. ⌜ status r ≡ finalStatus (readCache (now (words .entry)) .trees) search ⌝ }
-{
-    let best = search.best_solution;
-    let BestSolution::Best { entry, node: _ } = best else {
-        return SearchStatus::Impossible;
-    };
-    let memory = search.trees[entry];
-    let solution = memory.solution;
-    let Solution::At(node) = solution else {
-        return SearchStatus::Impossible;
-    };
-    SearchStatus::Solved {
-        total_cost: node_cost(words, memory.tree, node),
-        moves: moves(words, memory.tree, node),
-    }
-}
-
-// A node's cost, in the tree of a slot.
-fn node_cost(words: &[u32], slot: usize, node: u32) -> u32
-    requires { ⌜ HasNode (now words) slot node ⌝ }
-    ensures { λ r. ⌜ r ≡ Tree·node (tree (readCache (now (words .entry)) .trees) slot .nodes) node .cost ⌝ }
-{
-    let s = slot_of(words, slot);
-    let at = s.at;
-    let end = s.end;
-    layout::node_word(&words[at..end], wide(node), layout::NODE_COST)
-}
-
-// How many moves lead to a node, in the tree of a slot.
-fn moves(words: &[u32], slot: usize, node: u32) -> usize
-    requires { ⌜ HasNode (now words) slot node ⌝ }
-    ensures { λ r. ⌜ r ≡ movesOf (tree (readCache (now (words .entry)) .trees) slot .nodes) node ⌝ }
-{
-    let s = slot_of(words, slot);
-    let at = s.at;
-    let end = s.end;
-    paths::moves(&words[at..end], wide(node))
+    checked::step(words, search)
 }
 
 // Writes the path of a search that finished as solved: first vertex, then edge and vertex for each move, in the graph's own direction.

@@ -1,10 +1,10 @@
--- The model's turn in its two cases: the find is a node of the tree that is left, and growing takes at most ten tickets.
+-- The model's turn in its two cases: the find is a node of the tree that is left, and growing takes at most ten tickets. So do rounds, each.
 -- Assumes nothing.
 use mathlib.Core.Path.{_≡_, refl, ap, _∙_, subst}
 use mathlib.Core.Bool.{Bool, true, false, not}
 use mathlib.Core.Option.{Option, none, some}
 use mathlib.Core.List.{List}
-use Prim.Native.Nat.{ℕ, zero, suc, _+_, _<_, _≤_}
+use Prim.Native.Nat.{ℕ, zero, suc, _+_, _*_, _<_, _≤_}
 use native.Mathlib.Omega.{arith}
 use borrow.Author.Tests.{eq-eqb}
 use lib.Dec.{eqb}
@@ -12,11 +12,12 @@ use lib.ListN.{length}
 use Rattle.model.specs.declared.CostBound.{CostBound}
 use Rattle.model.specs.declared.KnownLen.{KnownLen}
 use Rattle.model.specs.declared.KnownLen.the-variants.{Len}
+use Rattle.model.specs.declared.Solution.{Solution}
 use Rattle.model.specs.declared.Solution.the-variants.{Unsolved, At}
 use Rattle.model.specs.Graph.{Domain, Accepted}
 use Rattle.model.specs.Tree.{Tree, node, closedAt, least, Going, on, found, over, Growth, taken, ticketOf, ticket, grow}
-use Rattle.model.specs.Sound.{Sound}
-use Rattle.model.specs.Search.{closedCount, lookupIf, lookup, Turn, findOf, grown, turnBy, turn}
+use Rattle.model.specs.Sound.{Sound, tree}
+use Rattle.model.specs.Search.{entry, goals, closedCount, lookupIf, lookup, Turn, findOf, grown, turnBy, turn, bound, Walk, round, rounds}
 use Rattle.model.proofs.RefinesRead.{find-in}
 
 module _ (d : Domain) (gs : List ℕ) (b : CostBound) (t : Tree) where
@@ -73,3 +74,21 @@ module _ (d : Domain) (gs : List ℕ) (b : CostBound) where
   grow-few (suc j) g =
       let next : Growth = ticket d gs b (g .tree) (g .tickets) (g .going) in
       omega (arith, grow-few j next, ticket-few (g .tree) (g .tickets) (g .going))
+
+turnBy-few : (d : Domain) (gs : List ℕ) (b : CostBound) (t : Tree) (known : KnownLen) (f : Solution) → turnBy d gs b t known f .tickets ≤ 10
+unfolding turnBy grown
+turnBy-few d gs b t known Unsolved = omega (arith, grow-few d gs b 10 (record { tree = t; tickets = 0; going = on }))
+turnBy-few d gs b t known (At n) = omega arith
+
+round-few : (d : Domain) (i : ℕ) (w : Walk) → round d i w .tickets ≤ 10 + w .tickets
+unfolding round turn
+round-few d i w =
+    let s = w .search in
+    let e = entry s i in
+    let t = tree (w .trees) (e .tree) in
+    omega (arith, turnBy-few d (goals s) (bound d (w .trees) s) t (e .«last_known_closed_len») (lookup d t (goals s) (e .«last_known_closed_len»)))
+
+pub rounds-few : (d : Domain) (k i : ℕ) (w : Walk) → rounds d k i w .tickets ≤ 10 * k + w .tickets
+unfolding rounds
+rounds-few d zero i w = omega arith
+rounds-few d (suc k) i w = omega (arith, rounds-few d k (suc i) (round d i w), round-few d i w)

@@ -49,6 +49,16 @@ slots-kept d i w j =
     let b = bound d (w .trees) s in
     slot-kept d b s i (turn d (goals s) b (tree (w .trees) (e .tree)) (e .«last_known_closed_len»)) j
 
+pub rounds-slots : (d : Domain) (k i : ℕ) (w : Walk) (j : ℕ) → entry (rounds d k i w .search) j .tree ≡ entry (w .search) j .tree
+unfolding rounds
+rounds-slots d zero i w j = refl
+rounds-slots d (suc k) i w j = rounds-slots d k (suc i) (round d i w) j ∙ slots-kept d i w j
+
+pub rounds-count : (d : Domain) (k i : ℕ) (w : Walk) → rounds d k i w .search .«tree_count» ≡ w .search .«tree_count»
+unfolding rounds
+rounds-count d zero i w = refl
+rounds-count d (suc k) i w = rounds-count d k (suc i) (round d i w) ∙ round-count d i w
+
 -- ---- the walk after i rounds
 
 abbrev walked : List ℕ → Search → ℕ → Walk

@@ -9,8 +9,8 @@ use Rattle.layout.specs.Read.{readCache}
 use Rattle.layout.specs.Sound.{soundWordsb}
 use Rattle.sound.proofs.Facts.{sound-words-at}
 use Rattle.memory.proofs.Fits.{best-few, valid-fits}
-use Rattle.dijkstra.specs.Calls.{CanShow}
-use Rattle.dijkstra.proofs.Finished.{node-shown}
+use Rattle.turn.specs.Turn.{CanStep}
+use Rattle.checked.proofs.Finished.{node-shown}
 use Rattle.dijkstra.proofs.Retraced.{not-sound, not-valid, not-finished, no-best, is-held, path-shown}
 use Rattle.dijkstra.proofs.retrace.Statement.{statement}
 use Rattle.dijkstra.proofs.retrace.Tie as tie
@@ -25,8 +25,8 @@ fine : (c : tie.Else2)
     valid (readCache (a .words .now) .domain) (readCache (a .words .now) .trees) (a .t2) ≡ true
 fine c = sym (c .before .is-valid .ensures) ∙ not-false _ (c .if2 .left)
 
-can-show : (c : tie.Else2) → let a = c .before .before .before .before .before .before .args in CanShow (a .words .now) (a .t2)
-can-show c =
+can-step : (c : tie.Else2) → let a = c .before .before .before .before .before .before .args in CanStep (a .words .now) (a .t2)
+can-step c =
     let ok = sound-words-at _ (sound (c .before .before)) in
     record { sound = ok; fits = valid-fits _ _ ok (fine c) }
 
@@ -51,12 +51,12 @@ returns-4 c =
 
 mul-memory : tie.Need-mul-memory
 mul-memory c =
-    let v = can-show (c .before .before .before .before) in
+    let v = can-step (c .before .before .before .before) in
     search (needs, best-few (v .sound) (v .fits) (c .before .best .given .1))
 
 element-copy-out-memory : tie.Need-element-copy-out-memory
 element-copy-out-memory c =
-    let v = can-show (c .before .before .before .before) in
+    let v = can-step (c .before .before .before .before) in
     best-few (v .sound) (v .fits) (c .before .best .given .1)
 
 returns-5 : tie.Need-returns-5
@@ -69,7 +69,7 @@ returns-5 c =
 retrace-node-requires : tie.Need-retrace-node-requires
 retrace-node-requires c κs =
     let b = c .before .before .before .before .before .before in
-    node-shown (can-show (b .before .before .before)) (b .best .given .1) (c .before .before .solution .given .1)
+    node-shown (can-step (b .before .before .before)) (b .best .given .1) (c .before .before .solution .given .1)
 
 returns-6 : tie.Need-returns-6
 returns-6 c =

@@ -2,7 +2,7 @@
 -- Assumes nothing.
 use borrow.Author.Needs.{needs}
 use Rattle.memory.proofs.Slots.{slot-is-ready, part-starts, part-ends}
-use Rattle.dijkstra.proofs.Nodes.{few-moves, path-short, can-backtrack, path-written}
+use Rattle.dijkstra.proofs.RetracedNode.{few-moves, path-short, can-backtrack, path-written}
 use Rattle.dijkstra.proofs.retrace_node.Statement.{statement}
 use Rattle.dijkstra.proofs.retrace_node.Tie as tie
 

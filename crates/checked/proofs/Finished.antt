@@ -16,7 +16,7 @@ use Rattle.model.specs.Search.{entry}
 use Rattle.model.specs.Calls.{shownBy, shownTreeBy, statusAt, finalStatus}
 use Rattle.memory.specs.Memory.{HasNode}
 use Rattle.memory.proofs.Fits.{held-node}
-use Rattle.dijkstra.specs.Calls.{CanShow}
+use Rattle.turn.specs.Turn.{CanStep}
 
 module _ (ts : List Tree) (s : Search) where
   pub nothing-best : s .«best_solution» ≡ NoBest → noPath ≡ finalStatus ts s
@@ -37,6 +37,6 @@ module _ (ts : List Tree) (s : Search) where
     pub solved-at : {h k m : ℕ} → entry s i .solution ≡ At h → k ≡ node (t .nodes) h .cost → m ≡ movesOf (t .nodes) h → solved k m ≡ finalStatus ts s
     solved-at e cost moves = ap₂ solved cost moves ∙ status-held e
 
-pub node-shown : {ws : List ℕ} {s : Search} → CanShow ws s → {i n : ℕ} → s .«best_solution» ≡ Best i n → {h : ℕ} → entry s i .solution ≡ At h
+pub node-shown : {ws : List ℕ} {s : Search} → CanStep ws s → {i n : ℕ} → s .«best_solution» ≡ Best i n → {h : ℕ} → entry s i .solution ≡ At h
     → HasNode ws (entry s i .tree) h
 node-shown v {i} {n} best e = held-node (v .sound, v .fits .held i (v .fits .best i n best .0)) e

@@ -2,9 +2,9 @@
 -- Assumes nothing.
 use borrow.Author.Needs.{needs}
 use Rattle.memory.proofs.Slots.{slot-is-ready, part-starts, part-ends}
-use Rattle.dijkstra.proofs.Nodes.{is-hung, moves-are}
-use Rattle.dijkstra.proofs.moves.Statement.{statement}
-use Rattle.dijkstra.proofs.moves.Tie as tie
+use Rattle.checked.proofs.Nodes.{is-hung, moves-are}
+use Rattle.checked.proofs.moves.Statement.{statement}
+use Rattle.checked.proofs.moves.Tie as tie
 
 mul-moves : tie.Need-mul-moves
 mul-moves c = search (needs, slot-is-ready (c .before .before .pre .used) (c .slot-of .ensures))

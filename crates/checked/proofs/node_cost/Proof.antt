@@ -2,9 +2,9 @@
 -- Assumes nothing.
 use borrow.Author.Needs.{needs}
 use Rattle.memory.proofs.Slots.{slot-is-ready, part-starts, part-ends}
-use Rattle.dijkstra.proofs.Nodes.{cost-word, cost-is}
-use Rattle.dijkstra.proofs.node_cost.Statement.{statement}
-use Rattle.dijkstra.proofs.node_cost.Tie as tie
+use Rattle.checked.proofs.Nodes.{cost-word, cost-is}
+use Rattle.checked.proofs.node_cost.Statement.{statement}
+use Rattle.checked.proofs.node_cost.Tie as tie
 
 mul-node-word : tie.Need-mul-node-word
 mul-node-word c = search (needs, slot-is-ready (c .before .before .pre .used) (c .slot-of .ensures))

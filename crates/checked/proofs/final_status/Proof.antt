@@ -2,9 +2,9 @@
 -- Assumes nothing.
 use borrow.Author.Needs.{needs}
 use Rattle.memory.proofs.Fits.{best-few}
-use Rattle.dijkstra.proofs.Finished.{nothing-best, nothing-held, solved-at, node-shown}
-use Rattle.dijkstra.proofs.final_status.Statement.{statement}
-use Rattle.dijkstra.proofs.final_status.Tie as tie
+use Rattle.checked.proofs.Finished.{nothing-best, nothing-held, solved-at, node-shown}
+use Rattle.checked.proofs.final_status.Statement.{statement}
+use Rattle.checked.proofs.final_status.Tie as tie
 
 returns : tie.Need-returns
 returns c = nothing-best _ _ (c .enum-told .given .1)

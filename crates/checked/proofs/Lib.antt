@@ -1,0 +1,5 @@
+-- Laws that belong to no one function.
+pub mod Nodes
+pub mod Finished
+pub mod Advanced
+pub mod Records
