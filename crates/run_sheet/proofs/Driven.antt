@@ -15,10 +15,9 @@ use Rattle.model.specs.Calls.{Cache, SoundCache, AfterStep, step, AfterRetrace,
 use Rattle.model.specs.Demands.{Act, ownStep, ownRetrace, Event, stepped, retraced, events, waitLimit, Outcome, unreachable, reached, Right, statusOf, shownIf, shownOf, Early, Late, Every, steps, Owed}
 use Rattle.model.proofs.Replies.{answered-refused}
 use Rattle.model.proofs.Keeps.{KeptCache, kept-sound, accepted-kept, step-keeps}
-use Rattle.sheet.specs.declared.answers.Answer.the-variants.{Solved}
+use Rattle.planner.specs.Solve.{isWaiting, AfterSteps, stepsIf, stepsFrom}
 use Rattle.sheet.specs.Answers.{lineOf}
-use Rattle.run_sheet.specs.declared.order.Driven.{Driven}
-use Rattle.run_sheet.specs.Orders.{progressOf, Drove, droveBy, droveFrom, lineFor, shownText, drivenText, textOf, RightLine}
+use Rattle.run_sheet.specs.Orders.{lineFor, shownText, drivenText, textOf, RightLine}
 use Rattle.run_sheet.proofs.Bounds.{moves-few}
 
 -- ---- the words of a path
@@ -94,17 +93,14 @@ module _ (dir : Direction) (g : Graph) (ss gs : List ℕ) where
     abbrev pub Line : List ℕ → Type 0
     Line = RightLine dir g ss gs i
 
-    abbrev pub textFrom : Drove → List ℕ
-    textFrom d = drivenText (d .driven .answer) i (d .cache) (d .driven)
-
     -- a step that answered solved, and the retrace after it
-    solved-line : (w t k m : ℕ) (s : Search) (p : List ℕ) (r : AfterRetrace) → 1 + 2 * m ≤ length p
+    solved-line : (w t k m : ℕ) (c : Cache) (s : Search) (p : List ℕ) (r : AfterRetrace) → 1 + 2 * m ≤ length p
         → Ended w (stepped (answered (solved k m))) (retraced p r ∷ [])
-        → Line (shownText i (record { answer = Solved k; waits = w; tickets = t; search = s }) (r .reply) (r .path))
-    solved-line w t k m s p r fits x = go (x .outcome) (x .right) (x .now) (x .late .0)
+        → Line (shownText i (record { cache = c; search = s; reply = answered (solved k m); waits = w; tickets = t }) (r .reply) (r .path))
+    solved-line w t k m c s p r fits x = go (x .outcome) (x .right) (x .now) (x .late .0)
       where
-        d : Driven
-        d = record { answer = Solved k; waits = w; tickets = t; search = s }
+        d : AfterSteps
+        d = record { cache = c; search = s; reply = answered (solved k m); waits = w; tickets = t }
 
         shown : (a : ℕ) (ls : List ℕ) (b : Bool) → b ≡ false → r ≡ shownIf b g a ls p → shownText i d (r .reply) (r .path) ≡ lineOf (lineFor i d) (pathWords g a ls)
         shown a ls true z e = absurd (let y : _≡_ {A = ℕ} 0 1 = cc in omega arith)
@@ -133,8 +129,8 @@ module _ (dir : Direction) (g : Graph) (ss gs : List ℕ) where
 
     -- n steps are enough for the waits that are left
     pub line-from : (n : ℕ) (c : Cache) (s : Search) (w t : ℕ) → Accepted (c .domain .graph) → SoundCache c → ((acts : List Act) → Rest w (events c s acts))
-        → waitLimit dir g ss gs < n + w → Line (textFrom (droveFrom n c s w t))
-    unfolding droveFrom events
+        → waitLimit dir g ss gs < n + w → Line (drivenText i (stepsFrom n c s w t))
+    unfolding stepsFrom events
     line-from zero c s w t acc ok rest more = absurd (omega (arith, rest [] .few))
     line-from (suc n) c s w t acc ok rest more =
         go (λ l. line-from n (r .cache) (r .search) (w + 1) u (accepted-kept c (r .cache) kept acc) (kept-sound c (r .cache) kept) l (omega arith)) (r .reply) refl
@@ -154,14 +150,20 @@ module _ (dir : Direction) (g : Graph) (ss gs : List ℕ) where
         next : (x : Reply Status) → r .reply ≡ x → (acts : List Act) → Rest w (stepped x ∷ events (r .cache) (r .search) acts)
         next x e acts = subst (λ (y : Reply Status). Rest w (stepped y ∷ events (r .cache) (r .search) acts)) e (rest (ownStep ∷ acts))
 
-        go : (((acts : List Act) → Rest (w + 1) (events (r .cache) (r .search) acts)) → Line (textFrom (droveFrom n (r .cache) (r .search) (w + 1) u)))
-            → (x : Reply Status) → r .reply ≡ x → Line (textFrom (droveBy (progressOf x) r w u (droveFrom n (r .cache) (r .search) (w + 1) u)))
+        end : Reply Status → AfterSteps
+        end x = record { cache = r .cache; search = r .search; reply = x; waits = w; tickets = u }
+
+        told : (x : Reply Status) → r .reply ≡ x → Line (drivenText i (end x)) → Line (drivenText i (end (r .reply)))
+        told x e l = subst (λ (y : Reply Status). Line (drivenText i (end y))) (sym e) l
+
+        go : (((acts : List Act) → Rest (w + 1) (events (r .cache) (r .search) acts)) → Line (drivenText i (stepsFrom n (r .cache) (r .search) (w + 1) u)))
+            → (x : Reply Status) → r .reply ≡ x → Line (drivenText i (stepsIf (isWaiting x) r w u (stepsFrom n (r .cache) (r .search) (w + 1) u)))
         go ih (answered waiting) e = ih (λ acts. after-wait w _ (next _ e acts))
         go ih (answered (solved k m)) e =
             let few : m < 1024 = omega (arith, moves-few c s (ok .trees) k m e, acc .vertices) in
-            let end = ended w _ _ (λ z. let y : _≡_ {A = ℕ} 0 1 = cc in omega arith) (next _ e (ownRetrace p ∷ [])) in
-            solved-line w u k m (r .search) p (retrace (r .cache) (r .search) p) (omega (arith, length-replicate {A = ℕ} 2047 0)) end
-        go ih (answered noPath) e = none-line w u [] (ended w _ _ (λ z. let y : _≡_ {A = ℕ} 0 1 = cc in omega arith) (next _ e []))
+            let x = ended w _ _ (λ z. let y : _≡_ {A = ℕ} 0 1 = cc in omega arith) (next _ e (ownRetrace p ∷ [])) in
+            told _ e (solved-line w u k m (r .cache) (r .search) p (retrace (r .cache) (r .search) p) (omega (arith, length-replicate {A = ℕ} 2047 0)) x)
+        go ih (answered noPath) e = told _ e (none-line w u [] (ended w _ _ (λ z. let y : _≡_ {A = ℕ} 0 1 = cc in omega arith) (next _ e [])))
         go ih (refused k l) e =
             let x = ended w (stepped (refused k l)) [] (λ z. answered-refused waiting k l (sym z)) (next _ e []) in
             absurd (answered-refused _ k l (sym (x .now)))

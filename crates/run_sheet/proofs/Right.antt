@@ -1,12 +1,13 @@
 -- What is printed of an order is right, whatever was called before.
 -- Assumes nothing.
 use mathlib.Core.Path.{_≡_, refl, sym, ap, _∙_, subst}
+use mathlib.Core.Bool.{Bool, true, false}
 use mathlib.Core.List.{List, [], _∷_, _++_}
 use Prim.Native.Nat.{ℕ, zero, suc, _+_, _<_}
 use native.Mathlib.Omega.{arith}
 use Rattle.model.specs.declared.OpenAnswer.the-variants.{Opened}
 use Rattle.model.specs.declared.Search.{Search}
-use Rattle.model.specs.Answers.{Reply, answered, refused, Status, waiting, solved, noPath}
+use Rattle.model.specs.Answers.{Reply, answered, refused}
 use Rattle.model.specs.Graph.{Accepted}
 use Rattle.model.specs.Calls.{Cache, opened, AfterInitialize, initialize, AfterStep, step}
 use Rattle.model.specs.Demands.{Call, initializing, stepping, after, afterAll, Act, events, waitLimit}
@@ -17,7 +18,8 @@ use Rattle.layout.specs.Read.{directionOf, readCache}
 use Rattle.cache.specs.Demand1.{Opens}
 use Rattle.cache.proofs.Demand1.{demand-1}
 use Rattle.sound.proofs.Opened.{opened-sound}
-use Rattle.run_sheet.specs.Orders.{progressOf, Drove, droveBy, droveFrom, Ordered, orderedBy, ordered, RightLine, RightLines, OrdersAreCalls}
+use Rattle.planner.specs.Solve.{isWaiting, AfterSteps, stepsIf, stepsFrom}
+use Rattle.run_sheet.specs.Orders.{Ordered, orderedBy, ordered, RightLine, RightLines, OrdersAreCalls}
 use Rattle.run_sheet.specs.Sheet.{Called, PrintsRight, LinesAreRight, OpensCalled}
 use Rattle.run_sheet.proofs.Bounds.{waits-few}
 use Rattle.run_sheet.proofs.Driven.{Rest, line-from}
@@ -50,10 +52,10 @@ right-lines dir g acc slots before ss gs i e =
 
 -- ---- its calls
 
-drove-calls : (n : ℕ) (c : Cache) (s : Search) (w t : ℕ) → (xs : List Call) × (droveFrom n c s w t .cache ≡ afterAll c xs)
-unfolding droveFrom afterAll
-drove-calls zero c s w t = ([], refl)
-drove-calls (suc n) c s w t = go (drove-calls n (r .cache) (r .search) (w + 1) u) (r .reply)
+steps-calls : (n : ℕ) (c : Cache) (s : Search) (w t : ℕ) → (xs : List Call) × (stepsFrom n c s w t .cache ≡ afterAll c xs)
+unfolding stepsFrom afterAll
+steps-calls zero c s w t = ([], refl)
+steps-calls (suc n) c s w t = go (steps-calls n (r .cache) (r .search) (w + 1) u) (isWaiting (r .reply))
   where
     r : AfterStep
     r = step c s
@@ -61,14 +63,12 @@ drove-calls (suc n) c s w t = go (drove-calls n (r .cache) (r .search) (w + 1) u
     u : ℕ
     u = t + r .tickets
 
-    rest : Drove
-    rest = droveFrom n (r .cache) (r .search) (w + 1) u
+    rest : AfterSteps
+    rest = stepsFrom n (r .cache) (r .search) (w + 1) u
 
-    go : (xs : List Call) × (rest .cache ≡ afterAll (r .cache) xs) → (x : Reply Status) → (xs : List Call) × (droveBy (progressOf x) r w u rest .cache ≡ afterAll c xs)
-    go ih (answered waiting) = (stepping s ∷ ih .0, ih .1)
-    go ih (answered (solved k m)) = (stepping s ∷ [], refl)
-    go ih (answered noPath) = (stepping s ∷ [], refl)
-    go ih (refused k l) = (stepping s ∷ [], refl)
+    go : (xs : List Call) × (rest .cache ≡ afterAll (r .cache) xs) → (b : Bool) → (xs : List Call) × (stepsIf b r w u rest .cache ≡ afterAll c xs)
+    go ih true = (stepping s ∷ ih .0, ih .1)
+    go ih false = (stepping s ∷ [], refl)
 
 pub orders-are-calls : OrdersAreCalls
 orders-are-calls i c ss gs = rw (ordered-is i c ss gs) (go (r .reply))
@@ -81,7 +81,7 @@ orders-are-calls i c ss gs = rw (ordered-is i c ss gs) (go (r .reply))
 
     go : (x : Reply (Unit {0})) → (xs : List Call) × (orderedBy x r i .cache ≡ afterAll c xs)
     go (refused n l) = (initializing ss gs ∷ [], (unfold afterAll in refl))
-    go (answered tt) = let d = drove-calls 131138 (r .cache) (r .search) 0 0 in (initializing ss gs ∷ d .0, d .1 ∙ first (d .0))
+    go (answered tt) = let d = steps-calls 131138 (r .cache) (r .search) 0 0 in (initializing ss gs ∷ d .0, d .1 ∙ first (d .0))
 
 -- ---- the lines printed, and the words left for the next order
 

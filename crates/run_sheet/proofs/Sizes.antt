@@ -1,4 +1,4 @@
--- How much the calls answer: tickets of a step, words of a path.
+-- How many words the path that a call shows has.
 -- Assumes nothing.
 use mathlib.Core.Path.{_≡_, refl, sym, ap, subst, _∙_}
 use mathlib.Core.Bool.{Bool, true, false, not}
@@ -9,7 +9,6 @@ use borrow.Author.Tests.{ltb-false}
 use lib.Dec.{ltb}
 use lib.ListN.{length}
 use Rattle.model.specs.declared.Search.{Search}
-use Rattle.model.specs.declared.Stepped.{Stepped}
 use Rattle.model.specs.declared.RetraceAnswer.{RetraceAnswer}
 use Rattle.model.specs.declared.RetraceAnswer.the-variants.{Moves}
 use Rattle.model.specs.Answers.{Reply, answered, refused, retraceReply}
@@ -17,17 +16,7 @@ use Rattle.model.specs.Valid.{valid}
 use Rattle.model.specs.Calls.{Cache, AfterRetrace, firstFault, shown, shownTree, movesAt, solvedAlready, retraceBy, retrace}
 use Rattle.layout.specs.Read.{readCache}
 use Rattle.layout.specs.Sound.{soundWordsb}
-use Rattle.checked.proofs.Records.{step-few}
-use Rattle.dijkstra.specs.Calls.{Stepping, stepSoundIf, retraceIf, Retracing}
-
--- ---- a step takes at most ten tickets for each of 64 entries
-
-pub few-tickets : {ws left : List ℕ} {s : Search} {r : Stepped} → Stepping ws s r left → r .tickets ≤ 640
-few-tickets {ws} {left} {s} {r} h = rw (h .tickets) (go (soundWordsb ws))
-  where
-    go : (x : Bool) → stepSoundIf x (readCache ws) s .tickets ≤ 640
-    go true = step-few (readCache ws) s
-    go false = omega arith
+use Rattle.dijkstra.specs.Calls.{retraceIf, Retracing}
 
 -- ---- a path that is shown has room
 

@@ -1,6 +1,6 @@
 -- The lines that are put: of a search that was stepped to its end, of an order.
 -- Assumes nothing.
-use mathlib.Core.Path.{_≡_, refl, sym, ap, ap₂, _∙_, subst}
+use mathlib.Core.Path.{_≡_, refl, sym, ap, _∙_, subst}
 use mathlib.Core.Logic.{_⊎_, inl, inr}
 use mathlib.Core.Bool.{Bool, true}
 use mathlib.Core.List.{List, []}
@@ -20,8 +20,11 @@ use Rattle.model.specs.Calls.{Cache, AfterInitialize, initialize, AfterRetrace}
 use Rattle.layout.specs.Read.{readCache}
 use Rattle.layout.specs.Sound.{soundWordsb}
 use Rattle.dijkstra.specs.Calls.{initializeIf, initializeWords, Initializing, retraceIf, Retracing}
+use Rattle.planner.specs.declared.StepsTaken.{StepsTaken}
+use Rattle.planner.specs.Solve.{AfterSteps, Solving}
 use Rattle.sheet.specs.declared.answers.Answer.{Answer}
 use Rattle.sheet.specs.declared.answers.Answer.the-variants.{Solved, Impossible, Refused}
+use Rattle.sheet.specs.declared.answers.Line.{Line}
 use Rattle.sheet.specs.declared.orders.Form.{Form}
 use Rattle.sheet.specs.declared.orders.Form.the-variants.{Forward, Backward, Illegal}
 use Rattle.sheet.specs.declared.orders.Numbers.{Numbers}
@@ -29,42 +32,53 @@ use Rattle.sheet.specs.declared.orders.Order.{Order}
 use Rattle.sheet.specs.Orders.{orderOf}
 use Rattle.sheet.specs.Answers.{Puts, lineOf}
 use Rattle.sheet.proofs.answers.Answer as answer
-use Rattle.run_sheet.specs.declared.order.Driven.{Driven}
-use Rattle.run_sheet.specs.Orders.{lineFor, refusedText, shownText, drivenText, orderedBy, Ordered, ordered}
-use Rattle.run_sheet.specs.Sheet.{Drives, listed, Ran, RanBy, RanLine}
+use Rattle.run_sheet.specs.Orders.{answerOf, refusedText, shownText, drivenBy, drivenText, orderedBy, Ordered, ordered}
+use Rattle.run_sheet.specs.Sheet.{afterSteps, listed, Ran, RanBy, RanLine}
 use Rattle.run_sheet.proofs.Within.{put-within}
+use Rattle.run_sheet.proofs.Drives.{taken-is}
 
 pub puts-as : {out t t′ left : List ℕ} {r : ℕ} → t ≡ t′ → Puts out 0 t r left → Puts out 0 t′ r left
 puts-as {out} {left = left} {r = r} e h = subst (λ (x : List ℕ). Puts out 0 x r left) e h
 
 -- ---- a search that was stepped to its end
 
+-- the line of steps whose answer is a
+abbrev lineBy : ℕ → AfterSteps → Answer → Line
+lineBy i d a = record { order = i; answer = a; waits = d .waits; tickets = d .tickets }
+
 -- of an order that is not solved no path is shown
-pub unsolved-text : (d : Driven) (i : ℕ) (c : Cache) → (tagOf answer.the-type (d .answer) ≡ 1) ⊎ (tagOf answer.the-type (d .answer) ≡ 2)
-    → lineOf (lineFor i d) [] ≡ drivenText (d .answer) i c d
-unsolved-text d i c = go (d .answer)
+pub unsolved-text : (d : AfterSteps) (i : ℕ) {a : Answer} → a ≡ answerOf (d .reply) → (tagOf answer.the-type a ≡ 1) ⊎ (tagOf answer.the-type a ≡ 2)
+    → lineOf (lineBy i d a) [] ≡ drivenText i d
+unsolved-text d i {a} e h = go a h ∙ ap (λ (x : Answer). drivenBy x i d) e
   where
-    go : (a : Answer) → (tagOf answer.the-type a ≡ 1) ⊎ (tagOf answer.the-type a ≡ 2) → lineOf (lineFor i d) [] ≡ drivenText a i c d
+    go : (x : Answer) → (tagOf answer.the-type x ≡ 1) ⊎ (tagOf answer.the-type x ≡ 2) → lineOf (lineBy i d a) [] ≡ drivenBy x i d
     go (Solved k) (inl h) = absurd (omega arith)
     go (Solved k) (inr h) = absurd (omega arith)
-    go Impossible h = refl
-    go (Refused n) h = refl
+    go Impossible h = ap (λ (x : Answer). lineOf (lineBy i d x) []) e
+    go (Refused n) h = ap (λ (x : Answer). lineOf (lineBy i d x) []) e
 
 -- of a solved one, what `retrace` answers in sound words
-module _ (ws : List ℕ) (ok : soundWordsb ws ≡ true) (d : Driven) {k : ℕ} (solved : d .answer ≡ Solved k) {r : RetraceAnswer} {q : List ℕ}
-    (p : Retracing ws (d .search) (replicate 2047 0) r q) (i : ℕ) where
-  shown-text : (x : RetraceAnswer) → r ≡ x → shownText i d (retraceReply x) q ≡ drivenText (d .answer) i (readCache ws) d
-  shown-text x e =
-      ap (λ (y : RetraceAnswer). shownText i d (retraceReply y) q) (sym e)
-      ∙ ap (λ (y : AfterRetrace). shownText i d (y .reply) (y .path)) (p ∙ ap (λ (b : Bool). retraceIf b (readCache ws) (d .search) (replicate 2047 0)) ok)
-      ∙ ap (λ (a : Answer). drivenText a i (readCache ws) d) (sym solved)
+module _ (ws : List ℕ) (t : StepsTaken) (i : ℕ) where
+  abbrev d : AfterSteps
+  d = afterSteps t ws
 
-  -- the path is lent as the part from its start on
-  pub path-text : {m : ℕ} → r ≡ retracing.Moves m → lineOf (lineFor i d) (take (1 + 2 * m - 0) q) ≡ drivenText (d .answer) i (readCache ws) d
-  path-text {m} e = ap (λ (n : ℕ). lineOf (lineFor i d) (take n q)) (sub-zero (1 + 2 * m)) ∙ shown-text (retracing.Moves m) e
+  module _ (ok : soundWordsb ws ≡ true) {a : Answer} {k : ℕ} (answers : a ≡ answerOf (d .reply)) (solved : a ≡ Solved k)
+      {r : RetraceAnswer} {q : List ℕ} (p : Retracing ws (t .search) (replicate 2047 0) r q) where
+    shown-text : (x : RetraceAnswer) → r ≡ x → shownText i d (retraceReply x) q ≡ drivenText i d
+    shown-text x e =
+        ap (λ (y : RetraceAnswer). shownText i d (retraceReply y) q) (sym e)
+        ∙ ap (λ (y : AfterRetrace). shownText i d (y .reply) (y .path)) (p ∙ ap (λ (b : Bool). retraceIf b (readCache ws) (t .search) (replicate 2047 0)) ok)
+        ∙ ap (λ (x : Answer). drivenBy x i d) (sym solved ∙ answers)
 
-  pub no-path-text : {f : Refusal} {line n : ℕ} → r ≡ retracing.Refused f line → n ≡ number f → refusedText i n ≡ drivenText (d .answer) i (readCache ws) d
-  no-path-text {f} {line} e h = ap (refusedText i) h ∙ shown-text (retracing.Refused f line) e
+    -- the path is lent as the part from its start on
+    pub path-text : {m : ℕ} → r ≡ retracing.Moves m → lineOf (lineBy i d a) (take (1 + 2 * m - 0) q) ≡ drivenText i d
+    path-text {m} e =
+        ap (λ (n : ℕ). lineOf (lineBy i d a) (take n q)) (sub-zero (1 + 2 * m))
+        ∙ ap (λ (x : Answer). lineOf (lineBy i d x) (take (1 + 2 * m) q)) answers
+        ∙ shown-text (retracing.Moves m) e
+
+    pub no-path-text : {f : Refusal} {line n : ℕ} → r ≡ retracing.Refused f line → n ≡ number f → refusedText i n ≡ drivenText i d
+    no-path-text {f} {line} e h = ap (refusedText i) h ∙ shown-text (retracing.Refused f line) e
 
 -- ---- an order of legal form
 
@@ -99,12 +113,11 @@ module _ {ws ss gs : List ℕ} (ok : soundWordsb ws ≡ true) {r : SearchOpened}
       → Ran ws i ss gs out n left out′
   ran-refused {i} {f = f} {line = line} e h t = ran (opens-as i (initializing.Refused f line) e) (puts-as (ap (refusedText i) h) t) refl (p .sound ∙ ok)
 
-  pub ran-driven : {i n : ℕ} {out words out′ : List ℕ} {d : Driven} → r .answer ≡ initializing.Initialized → Drives left (r .search) d words
-      → Puts out 0 (drivenText (d .answer) i (readCache words) d) n out′ → Ran ws i ss gs out n words out′
+  pub ran-driven : {i n : ℕ} {out words out′ : List ℕ} {t : StepsTaken} → r .answer ≡ initializing.Initialized → Solving left (r .search) 131138 t words
+      → Puts out 0 (drivenText i (afterSteps t words)) n out′ → Ran ws i ss gs out n words out′
   ran-driven {i} e h t =
-      ran (opens-as i initializing.Initialized e)
-      (puts-as (ap₂ (λ (c : Cache) (x : Driven). drivenText (x .answer) i c x) (h .cache) (h .driven)) t)
-      (h .cache) (h .sound)
+      let taken = taken-is h (p .sound ∙ ok) in
+      ran (opens-as i initializing.Initialized e) (puts-as (ap (drivenText i) taken) t) (ap (λ (d : AfterSteps). d .cache) taken) (h .sound ∙ p .sound ∙ ok)
 
 -- ---- an order's line, which was read
 

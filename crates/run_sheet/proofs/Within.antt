@@ -16,7 +16,7 @@ use Rattle.sheet.specs.Orders.{handed, listBy, listOf, fieldNumbers, letterF, l
 use Rattle.sheet.specs.Answers.{Puts}
 use Rattle.run_sheet.specs.declared.files.Bytes.{Bytes}
 use Rattle.run_sheet.specs.declared.files.Bytes.the-variants.{Count}
-use Rattle.run_sheet.specs.Sheet.{Listed, Within}
+use Rattle.run_sheet.specs.Sheet.{InArrays, Within}
 
 -- a text put at the start ends within the bytes
 pub put-within : {out t left : List ℕ} {r : ℕ} → Puts out 0 t r left → r ≤ length left
@@ -30,34 +30,34 @@ field-within : (f : List ℕ) → listOf f .count ≤ length (listOf f .numbers)
 unfolding listOf
 field-within f = list-within (fieldNumbers f)
 
-abbrev ListedOrder : Order → Type 0
-ListedOrder o = Listed (o .starts) (o .goals)
+abbrev OrderInArrays : Order → Type 0
+OrderInArrays o = InArrays (o .starts) (o .goals)
 
-none-listed : ListedOrder (orderIf false Forward (listBy none) (listBy none))
-none-listed = record { starts = list-within none; goals = list-within none }
+none-in-arrays : OrderInArrays (orderIf false Forward (listBy none) (listBy none))
+none-in-arrays = record { starts = list-within none; goals = list-within none }
 
-if-listed : (b : Bool) (f : Form) (s g : Numbers) → Listed s g → ListedOrder (orderIf b f s g)
-if-listed true f s g h = h
-if-listed false f s g h = none-listed
+if-in-arrays : (b : Bool) (f : Form) (s g : Numbers) → InArrays s g → OrderInArrays (orderIf b f s g)
+if-in-arrays true f s g h = h
+if-in-arrays false f s g h = none-in-arrays
 
-by-listed : (f b : Bool) (s g : Numbers) → Listed s g → ListedOrder (orderBy f b s g)
-by-listed true b s g h = if-listed (s .legal && g .legal) Forward s g h
-by-listed false true s g h = if-listed (s .legal && g .legal) Backward s g h
-by-listed false false s g h = none-listed
+by-in-arrays : (f b : Bool) (s g : Numbers) → InArrays s g → OrderInArrays (orderBy f b s g)
+by-in-arrays true b s g h = if-in-arrays (s .legal && g .legal) Forward s g h
+by-in-arrays false true s g h = if-in-arrays (s .legal && g .legal) Backward s g h
+by-in-arrays false false s g h = none-in-arrays
 
-from-listed : (fs : List (List ℕ)) → ListedOrder (orderFrom fs)
+from-in-arrays : (fs : List (List ℕ)) → OrderInArrays (orderFrom fs)
 unfolding orderFrom
-from-listed [] = none-listed
-from-listed (d ∷ []) = none-listed
-from-listed (d ∷ s ∷ []) = none-listed
-from-listed (d ∷ s ∷ g ∷ []) =
-    by-listed (isOnly letterF d) (isOnly letterB d) (listOf s) (listOf g) (record { starts = field-within s; goals = field-within g })
-from-listed (d ∷ s ∷ g ∷ f ∷ fs) = none-listed
+from-in-arrays [] = none-in-arrays
+from-in-arrays (d ∷ []) = none-in-arrays
+from-in-arrays (d ∷ s ∷ []) = none-in-arrays
+from-in-arrays (d ∷ s ∷ g ∷ []) =
+    by-in-arrays (isOnly letterF d) (isOnly letterB d) (listOf s) (listOf g) (record { starts = field-within s; goals = field-within g })
+from-in-arrays (d ∷ s ∷ g ∷ f ∷ fs) = none-in-arrays
 
 -- the lists of an order that was read
-pub order-read : (o : Order) (l : List ℕ) → o ≡ orderOf l → Listed (o .starts) (o .goals)
+pub order-read : (o : Order) (l : List ℕ) → o ≡ orderOf l → InArrays (o .starts) (o .goals)
 unfolding orderOf
-order-read o l e = rw e (from-listed (parted comma l))
+order-read o l e = rw e (from-in-arrays (parted comma l))
 
 -- the bytes of a file that was read
 pub count-within : (b : Bytes) (n : ℕ) (space : List ℕ) → Within b space → b ≡ Count n → n ≤ length space

@@ -6,8 +6,7 @@ use mathlib.Core.List.{List}
 use Prim.Native.Nat.{ℕ, _<_, _≤_}
 use lib.ListN.{length, take}
 use Rattle.model.specs.declared.OpenAnswer.the-variants.{Opened}
-use Rattle.model.specs.declared.Search.{Search}
-use Rattle.model.specs.Answers.{answered, refused}
+use Rattle.model.specs.Answers.{answered, refused, stepReply}
 use Rattle.model.specs.Graph.{Graph, Accepted, Direction, forward, backward}
 use Rattle.model.specs.Calls.{opened, initialize}
 use Rattle.model.specs.Demands.{Call, afterAll}
@@ -15,16 +14,17 @@ use Rattle.text.specs.Read.{readGraph}
 use Rattle.layout.specs.Read.{directionOf, readCache}
 use Rattle.layout.specs.Sound.{soundWordsb}
 use Rattle.cache.specs.Open.{Opening}
+use Rattle.planner.specs.declared.StepsTaken.{StepsTaken}
+use Rattle.planner.specs.Solve.{AfterSteps}
 use Rattle.sheet.specs.declared.orders.Numbers.{Numbers}
 use Rattle.sheet.specs.declared.orders.Form.{Form}
 use Rattle.sheet.specs.declared.orders.Form.the-variants.{Forward, Backward, Illegal}
 use Rattle.sheet.specs.declared.orders.Order.{Order}
 use Rattle.sheet.specs.Orders.{orderOf}
 use Rattle.sheet.specs.Answers.{Puts}
-use Rattle.run_sheet.specs.Orders.{drove, ordered, refusedText, RightLine}
+use Rattle.run_sheet.specs.Orders.{ordered, refusedText, RightLine}
 use Rattle.run_sheet.specs.declared.files.Bytes.{Bytes}
 use Rattle.run_sheet.specs.declared.files.Bytes.the-variants.{Count, Failed}
-use Rattle.run_sheet.specs.declared.order.Driven.{Driven}
 
 -- an order's number, and the bytes lent for its line
 pub record CanPut (n : ℕ) (out : List ℕ) : Type 0 where
@@ -32,12 +32,12 @@ pub record CanPut (n : ℕ) (out : List ℕ) : Type 0 where
   pub room : 24576 ≤ length out
 
 -- a list's numbers are counted within its array
-pub record Listed (ss gs : Numbers) : Type 0 where
+pub record InArrays (ss gs : Numbers) : Type 0 where
   pub starts : ss .count ≤ length (ss .numbers)
   pub goals : gs .count ≤ length (gs .numbers)
 
 -- the counts of an order are numbers of at most 10 digits
-pub record Counted (d : Driven) : Type 0 where
+pub record Counted (d : StepsTaken) : Type 0 where
   pub waits : d .waits < 10000000000
   pub tickets : d .tickets < 10000000000
 
@@ -48,12 +48,9 @@ Within Failed space = Unit {0}
 
 -- ---- the orders, in words
 
--- a search stepped to its end, in sound words
-pub record Drives (ws : List ℕ) (s : Search) (r : Driven) (left : List ℕ) : Type 0 where
-  pub driven : r ≡ drove (readCache ws) s .driven
-  pub cache : readCache left ≡ drove (readCache ws) s .cache
-  pub sound : soundWordsb left ≡ true
-  pub counted : Counted r
+-- what some steps came to, with the cache that the words left hold
+abbrev pub afterSteps : StepsTaken → List ℕ → AfterSteps
+afterSteps r left = record { cache = readCache left; search = r .search; reply = stepReply (r .answer); waits = r .waits; tickets = r .tickets }
 
 -- the numbers of a list that was read
 abbrev pub listed : Numbers → List ℕ

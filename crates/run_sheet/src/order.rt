@@ -2,9 +2,9 @@
 use model::InitializeAnswer;
 use model::Refusal;
 use model::RetraceAnswer;
-use model::Search;
 use model::SearchStatus;
 use model::StepAnswer;
+use planner::StepsTaken;
 use sheet::answers::Answer;
 use sheet::answers::Line;
 use sheet::answers::put_line;
@@ -14,31 +14,16 @@ use sheet::orders::read_order;
 ghost use mathlib.Core.Path.{_≡_};
 ghost use mathlib.Core.Bool.{true};
 ghost use Rattle.model.specs.Answers.{stepReply, number as Answers·number};
-ghost use Rattle.layout.specs.Read.{readCache};
 ghost use Rattle.layout.specs.Sound.{soundWordsb};
 ghost use Rattle.sheet.specs.Answers.{Puts};
-ghost use Rattle.run_sheet.specs.Orders.{progressOf, refusedText, drivenText};
-ghost use Rattle.run_sheet.specs.Sheet.{CanPut, Listed, Counted, Drives, listed, Ran, RanLine, CalledBoth};
+ghost use Rattle.run_sheet.specs.Orders.{answerOf, refusedText, drivenText};
+ghost use Rattle.run_sheet.specs.Sheet.{CanPut, InArrays, Counted, afterSteps, listed, Ran, RanLine, CalledBoth};
 
 // One step more than a search of 64 trees and 2,048 edges waits: 1 + 64 × (1 + 2,048) waits, and then its answer.
-const MAX_STEPS: usize = 131138;
+const MAX_STEPS: u32 = 131138;
 
 // The words of a path of 1,023 moves, the most there are among 1,024 vertices.
 const MAX_PATH: usize = 2047;
-
-// What a step answered.
-enum Progress {
-    Waits,
-    Over(Answer),
-}
-
-// An order that was stepped to its end.
-struct Driven {
-    answer: Answer,
-    waits: usize,
-    tickets: usize,
-    search: Search,
-}
 
 // Puts the line of an order, which is given without its LF, and answers how many bytes it has.
 pub fn put_order(
@@ -85,7 +70,7 @@ fn put_search(
     goals: Numbers,
     out: &mut [u8],
 ) -> usize
-    requires { ⌜ CanPut order (now out) × (Listed starts goals × (soundWordsb (now words) ≡ true)) ⌝ }
+    requires { ⌜ CanPut order (now out) × (InArrays starts goals × (soundWordsb (now words) ≡ true)) ⌝ }
     ensures { λ r. ⌜ Ran (now (words .entry)) order (listed starts) (listed goals) (now (out .entry)) r (now (words .exit)) (now (out .exit)) ⌝ }
 {
     let from = starts.numbers;
@@ -98,76 +83,42 @@ fn put_search(
         InitializeAnswer::Refused { refusal, line: _ } => put_refusal(out, order, number(refusal)),
         InitializeAnswer::Initialized => {
             let search = opened.search;
-            let driven = drive(words, search);
-            put_driven(words, order, driven, out)
+            let taken = planner::solve(words, search, MAX_STEPS);
+            put_driven(words, order, taken, out)
         }
     }
 }
 
-// Steps a search until its answer is not waiting. The count falls so that the loop ends whatever is answered; a search that was opened
-// answers before it is used up.
-fn drive(words: &mut [u32], search: Search) -> Driven
-    requires { ⌜ soundWordsb (now words) ≡ true ⌝ }
-    ensures { λ r. ⌜ Drives (now (words .entry)) search r (now (words .exit)) ⌝ }
-{
-    let mut next = search;
-    let mut waits: usize = 0;
-    let mut tickets: usize = 0;
-    let mut left = MAX_STEPS;
-    while 0 < left {
-        let stepped = dijkstra::step(words, next);
-        next = stepped.search;
-        tickets += stepped.tickets;
-        let answer = stepped.answer;
-        if let Progress::Over(over) = progress_of(answer) {
-            return Driven {
-                answer: over,
-                waits,
-                tickets,
-                search: next,
-            };
-        }
-        waits += 1;
-        left -= 1;
-    }
-    Driven {
-        answer: Answer::Refused(8),
-        waits,
-        tickets,
-        search: next,
-    }
-}
-
-fn progress_of(answer: StepAnswer) -> Progress
-    ensures { λ r. ⌜ r ≡ progressOf (stepReply answer) ⌝ }
+// The line's answer, by that of the last step. It never waits: a search that was opened answers within so many steps.
+fn answer_of(answer: StepAnswer) -> Answer
+    ensures { λ r. ⌜ r ≡ answerOf (stepReply answer) ⌝ }
 {
     match answer {
-        StepAnswer::Refused { refusal, line: _ } => Progress::Over(Answer::Refused(number(
-            refusal,
-        ))),
+        StepAnswer::Refused { refusal, line: _ } => Answer::Refused(number(refusal)),
         StepAnswer::Status(status) => match status {
-            SearchStatus::Incomplete => Progress::Waits,
+            SearchStatus::Incomplete => Answer::Refused(8),
             SearchStatus::Solved {
                 total_cost,
                 moves: _,
-            } => Progress::Over(Answer::Solved(total_cost)),
-            SearchStatus::Impossible => Progress::Over(Answer::Impossible),
+            } => Answer::Solved(total_cost),
+            SearchStatus::Impossible => Answer::Impossible,
         },
     }
 }
 
 // A solved order's line shows its path.
-fn put_driven(words: &[u32], order: usize, driven: Driven, out: &mut [u8]) -> usize
-    requires { ⌜ CanPut order (now out) × (Counted driven × (soundWordsb (now words) ≡ true)) ⌝ }
-    ensures { λ r. ⌜ Puts (now (out .entry)) 0 (drivenText (driven .answer) order (readCache (now (words .entry))) driven) r (now (out .exit)) ⌝ }
+fn put_driven(words: &[u32], order: usize, taken: StepsTaken, out: &mut [u8]) -> usize
+    requires { ⌜ CanPut order (now out) × (Counted taken × (soundWordsb (now words) ≡ true)) ⌝ }
+    ensures { λ r. ⌜ Puts (now (out .entry)) 0 (drivenText order (afterSteps taken (now (words .entry)))) r (now (out .exit)) ⌝ }
 {
-    let answer = driven.answer;
-    let search = driven.search;
+    let last = taken.answer;
+    let answer = answer_of(last);
+    let search = taken.search;
     let line = Line {
         order,
         answer,
-        waits: driven.waits,
-        tickets: driven.tickets,
+        waits: taken.waits,
+        tickets: taken.tickets,
     };
     let mut path = [0u32; MAX_PATH];
     let Answer::Solved(_) = answer else {

@@ -2,7 +2,7 @@
 -- Assumes nothing.
 use borrow.Author.Needs.{needs}
 use native.Mathlib.Omega.{arith}
-use Rattle.layout.specs.Read.{readCache}
+use Rattle.run_sheet.specs.Sheet.{afterSteps}
 use Rattle.run_sheet.proofs.Sizes.{path-fits}
 use Rattle.run_sheet.proofs.Texts.{puts-as, unsolved-text, path-text, no-path-text}
 use Rattle.run_sheet.proofs.order.put_driven.Statement.{statement}
@@ -19,7 +19,7 @@ part-put-line-end-2 c = omega (arith, path-fits _ _ _ _ _ _ (c .before .before .
 
 put-line-requires-2 : tie.Need-put-line-requires-2
 put-line-requires-2 c κs =
-    let a = c .before .before .before .before .before .before .before .before .before .before .before .before .before .before in
+    let a = c .before .before .before .before .before .before .before .before .before .before .before .before .before .before .before in
     record {
       order = omega (arith, a .pre .0 .order);
       waits = a .pre .1 .0 .waits;
@@ -29,29 +29,38 @@ put-line-requires-2 c κs =
 
 returns : tie.Need-returns
 returns c =
-    let a = c .before .before .before .before .before .before .before .before .before .before in
-    puts-as (unsolved-text (a .args .driven) (a .args .order) (readCache (a .args .words .now)) (c .before .before .before .before .before .before .match .keys2)) (c .before .before .put-line .ensures)
+    let o = c .before .before .before .before .before .before .before .before in
+    let a = o .before .before .before in
+    puts-as
+    (unsolved-text (afterSteps (a .args .taken) (a .args .words .now)) (a .args .order) (o .answer-of .ensures)
+    (c .before .before .before .before .before .before .match .keys2))
+    (c .before .before .put-line .ensures)
 
 returns-2 : tie.Need-returns-2
 returns-2 c =
     let r = c .before .before .before .before .before .before .before .before .before in
-    let a = r .before .before .before .before .before .before .before in
+    let o = r .before .before .before .before .before in
+    let a = o .before .before .before in
     puts-as
-    (no-path-text (a .args .words .now) (a .pre .1 .1) (a .args .driven) (r .before .before .enum-told .given .1) (r .retrace .ensures) (a .args .order) (c .before .before .before .before .before .before .refusal .given .1) (c .before .before .before .number .ensures))
+    (no-path-text (a .args .words .now) (a .args .taken) (a .args .order) (a .pre .1 .1) (o .answer-of .ensures) (r .before .before .enum-told .given .1)
+    (r .retrace .ensures) (c .before .before .before .before .before .before .refusal .given .1) (c .before .before .before .number .ensures))
     (c .before .before .put-refusal .ensures)
 
 returns-3 : tie.Need-returns-3
 returns-3 c =
     let r = c .before .before .before .before .before .before .before .before .before .before in
-    let a = r .before .before .before .before .before .before .before in
+    let o = r .before .before .before .before .before in
+    let a = o .before .before .before in
     puts-as
-    (path-text (a .args .words .now) (a .pre .1 .1) (a .args .driven) (r .before .before .enum-told .given .1) (r .retrace .ensures) (a .args .order) (c .before .before .before .before .before .before .before .moves .given .1))
+    (path-text (a .args .words .now) (a .args .taken) (a .args .order) (a .pre .1 .1) (o .answer-of .ensures) (r .before .before .enum-told .given .1)
+    (r .retrace .ensures) (c .before .before .before .before .before .before .before .moves .given .1))
     (c .before .before .put-line2 .ensures)
 
 pub put-driven-spec : {M : Type 1} → statement M
 put-driven-spec =
     tie.close
     (tie.spec
+    (λ c κs. search needs)
     (λ c. search needs)
     (λ c. search needs)
     (λ c. search needs)

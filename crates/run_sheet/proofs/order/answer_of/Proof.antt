@@ -1,8 +1,8 @@
--- `progress_of` meets its contract, by the answer's case.
+-- `answer_of` meets its contract, by the answer's case.
 -- Assumes nothing.
 use borrow.Author.Needs.{needs}
-use Rattle.run_sheet.proofs.order.progress_of.Statement.{statement}
-use Rattle.run_sheet.proofs.order.progress_of.Tie as tie
+use Rattle.run_sheet.proofs.order.answer_of.Statement.{statement}
+use Rattle.run_sheet.proofs.order.answer_of.Tie as tie
 
 returns : tie.Need-returns
 returns c = rw (c .before .before .answer .given .1, c .number .ensures)
@@ -13,8 +13,8 @@ returns-3 c = rw (c .before .before .before .before .answer2 .given .1, c .befor
 returns-4 : tie.Need-returns-4
 returns-4 c = rw (c .before .before .before .answer2 .given .1, c .enum-told2 .given .1)
 
-pub progress-of-spec : {M : Type 1} → statement M
-progress-of-spec =
+pub answer-of-spec : {M : Type 1} → statement M
+answer-of-spec =
     tie.close
     (tie.spec
     (λ c. search needs)
