@@ -1,6 +1,7 @@
 // One kind of call made many times, for bench/: `laps SLOTS FILL STARTS GOALS CALL COUNT`, with a chart on standard input. A forward
 // cache is opened, a search from each vertex of FILL to the goals is solved, and then one from the starts; CALL is made COUNT times
 // on the words left, each time with that search as it was opened. Prints a sum of what was answered.
+use layout::wide;
 use model::OpenAnswer;
 use model::Search;
 use planner::solve;
@@ -8,6 +9,7 @@ use sheet::orders::Numbers;
 use sheet::orders::read_list;
 use text::bytes::Number;
 use text::bytes::read_number;
+ghost use Prim.Native.Nat.{_≤_};
 
 const WORDS: usize = 65536;
 
@@ -78,8 +80,13 @@ fn opened(words: &mut [u32], starts: Numbers, goals: Numbers) -> Search {
     search
 }
 
-fn least(a: usize, b: usize) -> usize {
-    if a < b { a } else { b }
+fn least(a: usize, b: usize) -> usize
+    ensures { λ r. ⌜ r ≤ b ⌝ }
+{
+    if a < b {
+        return a;
+    }
+    b
 }
 
 fn repeated(words: &mut [u32], search: Search, call: u8, count: usize) -> u64 {
@@ -105,18 +112,18 @@ fn once(words: &mut [u32], search: Search, call: u8) -> u64 {
     if call == b'c' {
         return sound::is_sound(words) as u64;
     }
-    plain_sum(words)
+    wide(plain_sum(words)) as u64
 }
 
 // What a pass over the words costs at the least.
-fn plain_sum(words: &[u32]) -> u64 {
+fn plain_sum(words: &[u32]) -> u32 {
     let mut sum: u32 = 0;
     let mut i = 0;
     while i < words.len() {
         sum = std::num::wrapping_add_u32(sum, words[i]);
         i += 1;
     }
-    sum as u64
+    sum
 }
 
 // An argument as a list, as a number, and its first byte.
