@@ -21,7 +21,7 @@ use Rattle.layout.specs.Read.{directionOf, readCache}
 use Rattle.layout.specs.Sound.{soundWordsb}
 use Rattle.layout.proofs.Directions.{backward-word}
 use Rattle.sound.proofs.Facts.{sound-words-at, at-sound-words, trees-length, vertices-read}
-use Rattle.plant.specs.Plant.{plantedFor}
+use Rattle.plant.specs.Plant.{plantedIn}
 use Rattle.dijkstra.specs.Calls.{initializeIf, initializeWords, initializedWords, Initializing, notOpened, isFull, OpensIf, OpenedSearch}
 
 -- the slots and the direction
@@ -51,7 +51,7 @@ module _ (ws ss gs : List ℕ) where
   -- an accepted search from the roots vs to the goals hs
   abbrev openedAs : List ℕ → List ℕ → AfterInitialize
   openedAs vs hs =
-      let p = plantedFor ws vs in
+      let p = plantedIn ws vs in
       record { cache = withTrees c (p .trees); search = newSearch (p .entries) hs; reply = answered tt }
 
   -- what is left where a refusal was given
@@ -75,7 +75,7 @@ module _ (ws ss gs : List ℕ) where
 
     -- the first fault, by what each test gives
     abbrev full : Bool
-    full = ltb (c .slots - length (c .trees)) (length (plantedFor ws (rootsOf (c .domain .direction) ss gs) .trees) - length (c .trees))
+    full = ltb (c .slots - length (c .trees)) (length (plantedIn ws (rootsOf (c .domain .direction) ss gs) .trees) - length (c .trees))
 
     faults : {few below : Bool} → (leb (length ss) 64 && leb (length gs) 64) ≡ few
         → (allBelow (vertexCount (c .domain .graph)) ss && allBelow (vertexCount (c .domain .graph)) gs) ≡ below
@@ -113,8 +113,8 @@ module _ (ws ss gs : List ℕ) where
 
             full-is : full ≡ isFull ws vs
             full-is =
-                ap₂ (λ (n : ℕ) (l : List ℕ). ltb (c .slots - n) (length (plantedFor ws l .trees) - n)) (trees-length ws) roots-are
-                ∙ ap (λ (n : ℕ). ltb (n - getD ws 4 0) (length (plantedFor ws vs .trees) - getD ws 4 0)) (slots-are ws)
+                ap₂ (λ (n : ℕ) (l : List ℕ). ltb (c .slots - n) (length (plantedIn ws l .trees) - n)) (trees-length ws) roots-are
+                ∙ ap (λ (n : ℕ). ltb (n - getD ws 4 0) (length (plantedIn ws vs .trees) - getD ws 4 0)) (slots-are ws)
 
             fault : {b : Bool} → isFull ws vs ≡ b → firstFault (initializeFaults c ss gs) ≡ orElse b 6 none
             fault e =

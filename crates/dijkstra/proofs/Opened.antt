@@ -16,7 +16,7 @@ use Rattle.layout.specs.Read.{readCache}
 use Rattle.sound.specs.Facts.{SoundWords}
 use Rattle.memory.proofs.Lists.{below-at}
 use Rattle.plant.specs.declared.Planned.{Planned}
-use Rattle.plant.specs.Plant.{plantedFor, withNew, CanPlantAll, PlantsAll, Plans}
+use Rattle.plant.specs.Plant.{plantedIn, withNew, CanPlantAll, PlantsAll, Plans}
 use Rattle.plant.proofs.Plans.{planned-length, planned-starts, can-plant-all}
 use Rattle.dijkstra.specs.Calls.{notOpened, CanOpenSearch, OpensIf, OpensSearch, newStarts, CanTakeGoals, withGoals}
 use Rattle.dijkstra.proofs.Goals.{goals-taken}
@@ -31,7 +31,7 @@ can-open {ws} {vs} ok {m} count few goals below = record {
 
 -- r: what was planned; t of the slots, u in use
 module _ {ws vs gs : List ℕ} (ok : CanOpenSearch ws vs gs) {r : Planned} (p : Plans ws vs r) {t u : ℕ} (slots : t ≡ getD ws 3 0) (used : u ≡ getD ws 4 0) where
-  new-count : length (plantedFor ws vs .trees) - getD ws 4 0 ≡ r .count
+  new-count : length (plantedIn ws vs .trees) - getD ws 4 0 ≡ r .count
   new-count = omega (arith, planned-length (ok .plan) p)
 
   -- the starts of the new trees, as they are lent
@@ -42,7 +42,7 @@ module _ {ws vs gs : List ℕ} (ok : CanOpenSearch ws vs gs) {r : Planned} (p : 
 
   pub no-slots : t - u < r .count → {o : SearchOpened} → o ≡ notOpened TreesFull → OpensSearch ws vs gs o ws
   no-slots h {o} e =
-      let full : getD ws 3 0 - getD ws 4 0 < length (plantedFor ws vs .trees) - getD ws 4 0 = omega (arith, h, slots, used, new-count) in
+      let full : getD ws 3 0 - getD ws 4 0 < length (plantedIn ws vs .trees) - getD ws 4 0 = omega (arith, h, slots, used, new-count) in
       subst (λ (b : Bool). OpensIf b ws vs gs o ws) (sym (lt-ltb _ _ full)) (e, refl)
 
   module _ (h : r .count ≤ t - u) where
@@ -55,11 +55,11 @@ module _ {ws vs gs : List ℕ} (ok : CanOpenSearch ws vs gs) {r : Planned} (p : 
     pub is-opened : (left : List ℕ) → PlantsAll ws (take (r .count - 0) (r .starts)) left → (s : Search) → s ≡ withGoals (r .search) gs
         → OpensSearch ws vs gs (record { answer = Initialized; search = s }) left
     is-opened left q s e =
-        let room : length (plantedFor ws vs .trees) - getD ws 4 0 ≤ getD ws 3 0 - getD ws 4 0 = omega (arith, h, slots, used, new-count) in
+        let room : length (plantedIn ws vs .trees) - getD ws 4 0 ≤ getD ws 3 0 - getD ws 4 0 = omega (arith, h, slots, used, new-count) in
         let new : take (r .count) (r .starts) ≡ newStarts ws vs = planned-starts (ok .plan) p in
         subst (λ (b : Bool). OpensIf b ws vs gs (record { answer = Initialized; search = s }) left) (sym (le-ltb _ _ room))
         (record {
-          result = ap opened (e ∙ ap (λ (x : Search). withGoals x gs) (p .search) ∙ goals-taken (plantedFor ws vs .entries) gs (ok .goals));
+          result = ap opened (e ∙ ap (λ (x : Search). withGoals x gs) (p .search) ∙ goals-taken (plantedIn ws vs .entries) gs (ok .goals));
           trees = p .trees ∙ ap (withNew (readCache ws .domain) (readCache ws .trees)) new;
           plants = subst (λ (l : List ℕ). PlantsAll ws l left) (lent-starts ∙ new) q;
         })

@@ -22,7 +22,7 @@ use Rattle.model.specs.Calls.{Cache, AfterInitialize, initialize, AfterStep, st
 use Rattle.layout.specs.Read.{directionOf, readCache}
 use Rattle.layout.specs.Sound.{soundWordsb}
 use Rattle.checked.specs.Step.{Leaves}
-use Rattle.plant.specs.Plant.{CanPlan, plantedFor, plantedAll, withNew, PlantsAll}
+use Rattle.plant.specs.Plant.{CanPlan, plantedIn, plantedAll, withNew, PlantsAll}
 
 -- ---- `initialize`: "7, 4, 3, 6"
 
@@ -36,9 +36,9 @@ initializeWords ws ss gs = initializeIf (soundWordsb ws) (readCache ws) ss gs
 
 -- where the new trees of a search from the roots vs start
 abbrev pub newStarts : List ℕ → List ℕ → List ℕ
-newStarts ws vs = drop (length (readCache ws .trees)) (starts (plantedFor ws vs .trees))
+newStarts ws vs = drop (length (readCache ws .trees)) (starts (plantedIn ws vs .trees))
 
--- a refused call leaves the words; an accepted one adds the new trees in the next slots
+-- "Book, run slice and search stay as given" in a refusal; otherwise "New trees take the next slots in list order"
 abbrev pub initializedWords : Reply (Unit {0}) → List ℕ → List ℕ → List ℕ
 initializedWords (answered x) ws vs = plantedAll ws (newStarts ws vs)
 initializedWords (refused n line) ws vs = ws
@@ -99,11 +99,11 @@ pub record CanOpenSearch (ws vs gs : List ℕ) : Type 0 where
 
 -- "distinct new trees outnumber unused slots"
 abbrev pub isFull : List ℕ → List ℕ → Bool
-isFull ws vs = ltb (getD ws 3 0 - getD ws 4 0) (length (plantedFor ws vs .trees) - getD ws 4 0)
+isFull ws vs = ltb (getD ws 3 0 - getD ws 4 0) (length (plantedIn ws vs .trees) - getD ws 4 0)
 
 pub record OpenedSearch (ws vs gs : List ℕ) (r : SearchOpened) (left : List ℕ) : Type 0 where
-  pub result : r ≡ record { answer = initializing.Initialized; search = newSearch (plantedFor ws vs .entries) gs }
-  pub trees : plantedFor ws vs .trees ≡ withNew (readCache ws .domain) (readCache ws .trees) (newStarts ws vs)
+  pub result : r ≡ record { answer = initializing.Initialized; search = newSearch (plantedIn ws vs .entries) gs }
+  pub trees : plantedIn ws vs .trees ≡ withNew (readCache ws .domain) (readCache ws .trees) (newStarts ws vs)
   pub plants : PlantsAll ws (newStarts ws vs) left
 
 abbrev pub OpensIf : Bool → List ℕ → List ℕ → List ℕ → SearchOpened → List ℕ → Type 0

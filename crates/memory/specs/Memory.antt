@@ -27,7 +27,7 @@ pub record HasVertices (l : ℕ) (t : List ℕ) : Type 0 where
   pub formed : Formed l t
   pub vertices : (i : ℕ) → i < getD t 1 0 → HasVertex l t (getD t (nodeAt i) 0)
 
--- the counts of a record are within its arrays
+-- the counts of a record are within its arrays: not "a list 64"
 pub record Listed (s : Search) : Type 0 where
   pub trees : length (s .trees) ≡ 64
   pub entries : s .«tree_count» ≤ 64
@@ -48,7 +48,8 @@ pub record Entered (ws : List ℕ) (s : Search) : Type 0 where
   pub listed : Listed s
   pub held : (i : ℕ) → i < s .«tree_count» → Holds (readCache ws .trees) (entry s i)
 
--- a record whose entries, goals and nodes are those of m vertices and the trees ts
+-- of refusal 8 what keeps a record's numbers in place: no "wanted number is M or more", no "entry's tree .. not in use", and solutions and best
+-- are nodes of their trees
 pub record Fits (m : ℕ) (ts : List Tree) (s : Search) : Type 0 where
   pub listed : Listed s
   pub goals : (i : ℕ) → i < s .«goal_count» → getD (s .«goal_keys») i 0 < m

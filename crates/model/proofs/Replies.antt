@@ -103,3 +103,7 @@ retrace-told a b e = sym (retrace-from a) ∙ ap retraceFrom e ∙ retrace-from 
 -- no reply is both
 pub answered-refused : {A : Type 0} (a : A) (n line : ℕ) → _≡_ {A = Reply A} (answered a) (refused n line) → ⊥
 answered-refused a n line e = let z : _≡_ {A = ℕ} 0 1 = cc in omega arith
+
+-- and an answer tells what was answered
+pub answered-is : {A : Type 0} (a b : A) → _≡_ {A = Reply A} (answered a) (answered b) → a ≡ b
+answered-is a b e = cc

@@ -17,7 +17,7 @@ use Rattle.checked.specs.Step.{Leaves, notStepped}
 use Rattle.dijkstra.specs.Calls.{stepWords, Stepping}
 use Rattle.dijkstra.proofs.Stepped.{not-sound as step-not-sound}
 use Rattle.planner.specs.declared.StepsTaken.{StepsTaken}
-use Rattle.planner.specs.Solve.{isWaiting, AfterSteps, stepsFrom, solveIf, solveWords, at-first, Called, all-wait, one-answers, LeavesAfter, Solving, StepsSolve}
+use Rattle.planner.specs.Solve.{isWaiting, AfterSteps, stepsFrom, solveIf, solveWords, at-first, StepsCalled, all-wait, one-answers, LeavesAfter, Solving, StepsSolve}
 use Rattle.planner.proofs.Waits.{steps-none, steps-answer, waited-stays, reply-is, tickets-are, search-is, cache-is, unsound-is, unsound-unmoved}
 
 -- an answer that is not waiting comes from a step that leaves the words
@@ -31,7 +31,7 @@ stays : (mid : List ℕ) (x : Search) (r : Stepped) (left : List ℕ) → Steppi
 stays mid x r left p e = stays-if (stepWords mid x .reply) mid x left (ap isWaiting (sym (p .answer)) ∙ e) (p .words)
 
 -- by an equation with what the definition gives
-module _ {ws : List ℕ} {s : Search} {n : ℕ} {r : StepsTaken} {left : List ℕ} (called : 0 < n → Called ws s n r left) where
+module _ {ws : List ℕ} {s : Search} {n : ℕ} {r : StepsTaken} {left : List ℕ} (called : 0 < n → StepsCalled ws s n r left) where
   solving : {y : AfterSteps} → solveWords ws s n ≡ y
       → stepReply (r .answer) ≡ y .reply → r .waits ≡ y .waits → r .tickets ≡ y .tickets → r .search ≡ y .search
       → readCache left ≡ y .cache → soundWordsb left ≡ soundWordsb ws → LeavesAfter (r .waits) ws s left → Solving ws s n r left
@@ -53,7 +53,7 @@ module _ {ws : List ℕ} {s : Search} {n : ℕ} {r : StepsTaken} {left : List �
 steps-are : (ws : List ℕ) (s : Search) (n : ℕ) → soundWordsb ws ≡ true → {k : ℕ} → n ≡ k → solveWords ws s n ≡ stepsFrom k (readCache ws) s 0 0
 steps-are ws s n ok e = ap (λ (b : Bool). solveIf b n (readCache ws) s) ok ∙ ap (λ (j : ℕ). stepsFrom j (readCache ws) s 0 0) e
 
-pub called-solves : {ws : List ℕ} {s : Search} {n : ℕ} {r : StepsTaken} {left : List ℕ} → soundWordsb ws ≡ true → Called ws s n r left
+pub called-solves : {ws : List ℕ} {s : Search} {n : ℕ} {r : StepsTaken} {left : List ℕ} → soundWordsb ws ≡ true → StepsCalled ws s n r left
     → Solving ws s n r left
 called-solves {ws} {s} {n} ok (all-wait {t = t} {left = left} {x = x} v) =
     let h = waited-stays ok v in
@@ -78,7 +78,7 @@ not-sound ws s n e =
     solving (λ some. one-answers (notStepped s Unsound) some at-first (step-not-sound ws s e) refl) (ap (λ (b : Bool). solveIf b n (readCache ws) s) e)
     refl refl refl refl refl refl refl
 
-refused-solves : {ws : List ℕ} {s : Search} {n : ℕ} {r : StepsTaken} {left : List ℕ} → soundWordsb ws ≡ false → 0 < n → Called ws s n r left
+refused-solves : {ws : List ℕ} {s : Search} {n : ℕ} {r : StepsTaken} {left : List ℕ} → soundWordsb ws ≡ false → 0 < n → StepsCalled ws s n r left
     → Solving ws s n r left
 refused-solves unsound some (all-wait v) = let same = unsound-unmoved unsound v in absurd (omega (arith, same .waits, some))
 refused-solves {ws} {s} {n} unsound some (one-answers {w = w} {t = t} {mid = mid} {left = left} {x = x} r below v p e) =

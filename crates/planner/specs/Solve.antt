@@ -65,11 +65,11 @@ pub data Waited (ws : List ℕ) (s : Search) : ℕ → ℕ → List ℕ → Sear
       → isWaiting (stepReply (r .answer)) ≡ true → Waited ws s (w + 1) (t + r .tickets) left (r .search)
 
 -- n steps all waited; or fewer did, and the one after them answered
-pub data Called (ws : List ℕ) (s : Search) (n : ℕ) : StepsTaken → List ℕ → Type 0 where
+pub data StepsCalled (ws : List ℕ) (s : Search) (n : ℕ) : StepsTaken → List ℕ → Type 0 where
   all-wait : {t : ℕ} {left : List ℕ} {x : Search} → Waited ws s n t left x
-      → Called ws s n (record { answer = stepping.Status Incomplete; waits = n; tickets = t; search = x }) left
+      → StepsCalled ws s n (record { answer = stepping.Status Incomplete; waits = n; tickets = t; search = x }) left
   one-answers : {w t : ℕ} {mid left : List ℕ} {x : Search} (r : Stepped) → w < n → Waited ws s w t mid x → Stepping mid x r left
-      → isWaiting (stepReply (r .answer)) ≡ false → Called ws s n (record { answer = r .answer; waits = w; tickets = t + r .tickets; search = r .search }) left
+      → isWaiting (stepReply (r .answer)) ≡ false → StepsCalled ws s n (record { answer = r .answer; waits = w; tickets = t + r .tickets; search = r .search }) left
 
 -- ---- the promise
 
@@ -88,13 +88,13 @@ pub record Solving (ws : List ℕ) (s : Search) (n : ℕ) (r : StepsTaken) (left
   pub cache : readCache left ≡ solveWords ws s n .cache
   pub sound : soundWordsb left ≡ soundWordsb ws
   pub words : LeavesAfter (solveWords ws s n .waits) ws s left
-  pub called : 0 < n → Called ws s n r left
+  pub called : 0 < n → StepsCalled ws s n r left
 
 -- ---- what follows from the promise
 
 -- so many calls of `step` meet it
 abbrev pub StepsSolve : Type 0
-StepsSolve = (ws : List ℕ) (s : Search) (n : ℕ) (r : StepsTaken) (left : List ℕ) → 0 < n → Called ws s n r left → Solving ws s n r left
+StepsSolve = (ws : List ℕ) (s : Search) (n : ℕ) (r : StepsTaken) (left : List ℕ) → 0 < n → StepsCalled ws s n r left → Solving ws s n r left
 
 -- it leaves no more open than that of `step`: so `solve` answers as the steps do, and leaves the same words but for queue words
 abbrev pub Determined : Type 0
@@ -120,7 +120,7 @@ actsOf r = replicate (length (eventsOf r)) ownStep
 abbrev pub InChains : Type 0
 InChains =
     (ws : List ℕ) (s : Search) (n : ℕ) (r : StepsTaken) (left : List ℕ) (acts : List Act) (es : List Event)
-    → Called ws s n r left → Chain left (r .search) acts es → Chain ws s (actsOf r ++ acts) (eventsOf r ++ es)
+    → StepsCalled ws s n r left → Chain left (r .search) acts es → Chain ws s (actsOf r ++ acts) (eventsOf r ++ es)
 
 abbrev pub BetweenCalls : Type 0
-BetweenCalls = (ws : List ℕ) (s : Search) (n : ℕ) (r : StepsTaken) (left : List ℕ) → Called ws s n r left → (xs : List Call) × MadeAll ws xs left
+BetweenCalls = (ws : List ℕ) (s : Search) (n : ℕ) (r : StepsTaken) (left : List ℕ) → StepsCalled ws s n r left → (xs : List Call) × MadeAll ws xs left

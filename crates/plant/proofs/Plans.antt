@@ -17,7 +17,7 @@ use Rattle.model.proofs.Keeps.{plants-keep}
 use Rattle.layout.specs.Read.{readCache}
 use Rattle.sound.proofs.Facts.{trees-length, sound-cache, vertices-read}
 use Rattle.plant.specs.declared.Planned.{Planned}
-use Rattle.plant.specs.Plant.{CanPlantAll, CanPlan, plantedFor, Plans}
+use Rattle.plant.specs.Plant.{CanPlantAll, CanPlan, plantedIn, Plans}
 use Rattle.plant.proofs.NewTrees.{new-length}
 
 listed-below : (n : ℕ) (vs : List ℕ) → ((i : ℕ) → i < length vs → getD vs i 0 < n) → (v : ℕ) → mem v vs ≡ true → v < n
@@ -45,10 +45,10 @@ module _ {ws vs : List ℕ} {r : Planned} (ok : CanPlan ws vs) (p : Plans ws vs 
   new-count : length new ≡ r .count
   new-count = length-take-le (r .count) (r .starts) (omega (arith, p .count, p .starts))
 
-  pub planned-length : length (plantedFor ws vs .trees) ≡ getD ws 4 0 + r .count
+  pub planned-length : length (plantedIn ws vs .trees) ≡ getD ws 4 0 + r .count
   planned-length = omega (arith, ap length (p .trees), new-length d ts new, new-count, trees-length ws)
 
-  pub planned-starts : take (r .count) (r .starts) ≡ drop (length (readCache ws .trees)) (starts (plantedFor ws vs .trees))
+  pub planned-starts : take (r .count) (r .starts) ≡ drop (length (readCache ws .trees)) (starts (plantedIn ws vs .trees))
   planned-starts =
       sym (
       ap (λ (us : List Tree). drop (length ts) (starts us)) (p .trees)
@@ -56,7 +56,7 @@ module _ {ws vs : List ℕ} {r : Planned} (ok : CanPlan ws vs) (p : Plans ws vs 
       ∙ drop-at (starts ts) (starts (map (newTree d) new)) (length ts) (length-map ts (λ (t : Tree). t .start))
       ∙ new-starts d new)
 
-  planned-sound : SoundTrees d (plantedFor ws vs .trees)
+  planned-sound : SoundTrees d (plantedIn ws vs .trees)
   planned-sound = plants-keep d vs ts (sound-cache ws (ok .sound) .trees) (λ v e. rw (vertices-read (ok .sound)) (listed-below (getD ws 1 0) vs (ok .vertices) v e)) .0
 
   pub can-plant-all : getD ws 4 0 + r .count ≤ getD ws 3 0 → CanPlantAll ws (take (r .count) (r .starts))

@@ -18,7 +18,7 @@ use Rattle.model.proofs.Filled.{set-filled}
 use Rattle.layout.specs.Read.{readCache}
 use Rattle.sound.proofs.Facts.{trees-length}
 use Rattle.plant.specs.declared.Planned.{Planned}
-use Rattle.plant.specs.Plant.{withNew, CanPlan, plantedFor, Plans, slotWord, SlotTable, CanPlanRoot, Planning, planIf, PlansRoot}
+use Rattle.plant.specs.Plant.{withNew, CanPlan, plantedIn, Plans, slotWord, SlotTable, CanPlanRoot, Planning, planIf, PlansRoot}
 use Rattle.plant.proofs.NewTrees.{take-next, new-append, new-length}
 use Rattle.plant.proofs.Table.{table-more}
 
@@ -115,7 +115,7 @@ module _ {ws : List ℕ} {q : Planted} {n : ℕ} {p : Planned} {table : List ℕ
 -- ---- the loop over the roots: the table is lent whole, as a part
 
 pub matches-none : {ws table : List ℕ} {s : Search} → s ≡ emptySearch → SlotTable (readCache ws .trees) table
-    → Matches ws (plantedFor ws []) 0 (record { search = s; starts = replicate 64 0; count = 0 }) (table ++ [])
+    → Matches ws (plantedIn ws []) 0 (record { search = s; starts = replicate 64 0; count = 0 }) (table ++ [])
 unfolding plantAll
 matches-none {ws} {table} e h = record {
   search = e;
@@ -126,7 +126,7 @@ matches-none {ws} {table} e h = record {
   slots = rw (append-nil table) h;
 }
 
-module _ {ws vs table : List ℕ} {p : Planned} {i : ℕ} (ok : CanPlan ws vs) (h : Matches ws (plantedFor ws (take i vs)) i p table) where
+module _ {ws vs table : List ℕ} {p : Planned} {i : ℕ} (ok : CanPlan ws vs) (h : Matches ws (plantedIn ws (take i vs)) i p table) where
   pub table-room : 1024 ≤ length table
   table-room = omega (arith, h .slots .len)
 
@@ -138,7 +138,7 @@ module _ {ws vs table : List ℕ} {p : Planned} {i : ℕ} (ok : CanPlan ws vs) (
     v = getD vs i 0
 
     abbrev q : Planted
-    q = plantedFor ws (take i vs)
+    q = plantedIn ws (take i vs)
 
     small : v < 1024
     small = omega (arith, ok .vertices i b, ok .sound .held .sized .vertices)
@@ -152,7 +152,7 @@ module _ {ws vs table : List ℕ} {p : Planned} {i : ℕ} (ok : CanPlan ws vs) (
       vertex = ok .vertices i b;
     }
 
-    all : plantedFor ws (take (i + 1) vs) ≡ withRoot (readCache ws .domain) q v
+    all : plantedIn ws (take (i + 1) vs) ≡ withRoot (readCache ws .domain) q v
     all = ap (plantAll (readCache ws .domain) (readCache ws .trees)) (take-next 0 vs i b) ∙ plants-snoc (readCache ws .domain) (readCache ws .trees) (take i vs) v
 
     -- what the root's planning gives, by the word that stands in the table
@@ -162,7 +162,7 @@ module _ {ws vs table : List ℕ} {p : Planned} {i : ℕ} (ok : CanPlan ws vs) (
     matches : let g = planned table (slotWord (seek (q .trees) v 0)) in Matches ws (withRoot (readCache ws .domain) q v) (i + 1) (g .plan) (g .table)
     matches = root-matches h (omega (arith, ok .few)) v small (eqb (initialCost (readCache ws .domain) v) absent) (seek (q .trees) v 0) refl
 
-    pub matches-next : {r : Planned} {t : List ℕ} → PlansRoot ws (take 1024 table) p (getD vs i 0) r t → Matches ws (plantedFor ws (take (i + 1) vs)) (i + 1) r (t ++ drop 1024 table)
+    pub matches-next : {r : Planned} {t : List ℕ} → PlansRoot ws (take 1024 table) p (getD vs i 0) r t → Matches ws (plantedIn ws (take (i + 1) vs)) (i + 1) r (t ++ drop 1024 table)
     matches-next {r} {t} e =
         let plan : _≡_ {A = Planning} (record { plan = r; table = t }) (planned table (slotWord (seek (q .trees) v 0))) =
         e ∙ ap (λ (x : List ℕ). planned x (getD x v 0)) lent ∙ ap (planned table) (h .slots .slot v small) in
@@ -171,5 +171,5 @@ module _ {ws vs table : List ℕ} {p : Planned} {i : ℕ} (ok : CanPlan ws vs) (
 
   pub matches-all : i ≤ length vs → length vs ≤ i → Plans ws vs p
   matches-all a b =
-      let m : Matches ws (plantedFor ws vs) i p table = rw (take-all i vs b) at h in
+      let m : Matches ws (plantedIn ws vs) i p table = rw (take-all i vs b) at h in
       record { search = m .search; few = omega (arith, m .short, ok .few); count = omega (arith, m .count, ok .few); starts = m .starts; trees = m .trees }

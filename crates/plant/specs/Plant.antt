@@ -65,16 +65,16 @@ pub record CanPlan (ws vs : List ℕ) : Type 0 where
   pub vertices : (i : ℕ) → i < length vs → getD vs i 0 < getD ws 1 0
 
 -- the model's planting, in the cache that the words hold
-abbrev pub plantedFor : List ℕ → List ℕ → Planted
-plantedFor ws vs = let c = readCache ws in plantAll (c .domain) (c .trees) vs
+abbrev pub plantedIn : List ℕ → List ℕ → Planted
+plantedIn ws vs = let c = readCache ws in plantAll (c .domain) (c .trees) vs
 
 -- the entries are the model's, and its trees are those there and the new ones
 pub record Plans (ws vs : List ℕ) (r : Planned) : Type 0 where
-  pub search : r .search ≡ newSearch (plantedFor ws vs .entries) []
-  pub few : length (plantedFor ws vs .entries) ≤ 64
+  pub search : r .search ≡ newSearch (plantedIn ws vs .entries) []
+  pub few : length (plantedIn ws vs .entries) ≤ 64
   pub count : r .count ≤ 64
   pub starts : length (r .starts) ≡ 64
-  pub trees : plantedFor ws vs .trees ≡ withNew (readCache ws .domain) (readCache ws .trees) (take (r .count) (r .starts))
+  pub trees : plantedIn ws vs .trees ≡ withNew (readCache ws .domain) (readCache ws .trees) (take (r .count) (r .starts))
 
 -- a slot as a word: 0 for none, else one more
 abbrev pub slotWord : Option ℕ → ℕ

@@ -4,8 +4,8 @@ use mathlib.Core.Path.{_≡_, sym, _∙_, subst}
 use mathlib.Core.List.{List}
 use Prim.Native.Nat.{ℕ}
 use Rattle.model.specs.declared.OpenAnswer.the-variants.{Opened}
-use Rattle.model.specs.Answers.{Reply, answered}
 use Rattle.model.specs.Graph.{Graph, Direction, backward}
+use Rattle.model.proofs.Replies.{answered-is}
 use Rattle.cache.specs.Open.{Opening}
 use Rattle.sheet.specs.declared.orders.Form.{Form}
 use Rattle.sheet.specs.declared.orders.Form.the-variants.{Forward, Backward, Illegal}
@@ -14,15 +14,11 @@ use Rattle.sheet.specs.Orders.{orderOf}
 use Rattle.run_sheet.specs.Sheet.{Ran, RanBy, RanLine, Called, CalledBoth}
 use Rattle.run_sheet.proofs.Right.{lines-are-right, opens-called}
 
--- one text is of one graph
-same-graph : (g h : Graph) → _≡_ {A = Reply Graph} (answered g) (answered h) → g ≡ h
-same-graph g h e = cc
-
 pub called-both : (fs bs text : List ℕ) {fs′ bs′ : List ℕ} → Opening fs text 0 16 Opened fs′ → Opening bs text 1 16 Opened bs′ → CalledBoth fs′ bs′
 called-both fs bs text {fs′} {bs′} f b =
     let x = opens-called fs text 0 16 fs′ f in
     let y = opens-called bs text 1 16 bs′ b in
-    let same : y .0 ≡ x .0 = same-graph (y .0) (x .0) (sym (y .1 .0) ∙ x .1 .0) in
+    let same : y .0 ≡ x .0 = answered-is (y .0) (x .0) (sym (y .1 .0) ∙ x .1 .0) in
     record { graph = x .0; forward = x .1 .1; backward = subst (λ (g : Graph). Called backward g 16 bs′) same (y .1 .1) }
 
 ran-called : {dir : Direction} {g : Graph} {t i r : ℕ} {ws ss gs out left out′ : List ℕ} → Called dir g t ws → Ran ws i ss gs out r left out′ → Called dir g t left

@@ -5,13 +5,13 @@ use Prim.Native.Nat.{_-_, _≤_}
 use native.Mathlib.Omega.{arith}
 use borrow.Author.Needs.{needs}
 use lib.ListN.{length, take}
-use Rattle.plant.specs.Plant.{plantedFor}
+use Rattle.plant.specs.Plant.{plantedIn}
 use Rattle.plant.proofs.Roots.{Matches, matches-none, table-room, can-plan-root, matches-next, matches-all}
 use Rattle.plant.proofs.plan.Statement.{statement}
 use Rattle.plant.proofs.plan.Tie as tie
 
 abbrev Inv-loop : tie.InvT-loop
-Inv-loop words roots table₀ plan₀ i₀ table plan i = Matches words (plantedFor words (take i roots)) i plan table × (i ≤ length roots)
+Inv-loop words roots table₀ plan₀ i₀ table plan i = Matches words (plantedIn words (take i roots)) i plan table × (i ≤ length roots)
 
 abbrev μ-loop : tie.MeasureT-loop
 μ-loop words roots table₀ plan₀ i₀ table plan i = length roots - i
