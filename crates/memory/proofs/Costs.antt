@@ -7,7 +7,7 @@ use Prim.Native.Nat.{ℕ, suc, _-_, _<_, _≤_}
 use native.Mathlib.Omega.{arith}
 use borrow.Author.Tests.{le-leb, lt-leb}
 use lib.Dec.{eqb}
-use lib.ListN.{length, drop, drop-of-length-le}
+use lib.ListN.{drop, drop-of-length-le}
 use lib.Seq.{drop-cons}
 use Rattle.model.specs.declared.CostBound.{CostBound}
 use Rattle.model.specs.declared.CostBound.the-variants.{Unbounded, Bound}
@@ -20,6 +20,7 @@ use Rattle.model.specs.Search.{blank, entry, entries}
 use Rattle.model.specs.Valid.{heldCost, pickCost, lesser, leastHeld, sameCost}
 use Rattle.model.proofs.Valid.{entries-length, entries-at}
 use Rattle.memory.specs.Memory.{Listed}
+use Rattle.memory.proofs.Fits.{listed-fits}
 
 module _ {a b : CostBound} {x : ℕ} (p : a ≡ Bound x) where
   pub lesser-alone : b ≡ Unbounded → Bound x ≡ lesser a b
@@ -42,9 +43,6 @@ pub record Least (d : Domain) (ts : List Tree) (s : Search) (least : CostBound) 
   pub listed : Listed s
   pub left : i ≤ s .«tree_count»
   pub is : least ≡ leastHeld d ts (drop i (entries s))
-
-listed-fits : {s : Search} → Listed s → s .«tree_count» ≤ length (s .trees)
-listed-fits l = omega (arith, l .trees, l .entries)
 
 pub least-none : (d : Domain) (ts : List Tree) {s : Search} → Listed s → Least d ts s Unbounded (s .«tree_count»)
 unfolding leastHeld

@@ -1,9 +1,9 @@
 -- A record that fits a cache's words: what its entries, its best and the solutions held are there.
 -- Assumes nothing.
-use mathlib.Core.Path.{_≡_, refl, sym, ap, ap₂, _∙_, subst}
-use mathlib.Core.Bool.{Bool, true, false, not, _&&_, _||_}
+use mathlib.Core.Path.{_≡_, refl, sym, ap, _∙_, subst}
+use mathlib.Core.Bool.{Bool, true}
 use mathlib.Core.List.{List}
-use Prim.Native.Nat.{ℕ, _-_, _<_, _≤_}
+use Prim.Native.Nat.{ℕ, _<_, _≤_}
 use native.Mathlib.Omega.{arith}
 use borrow.Author.Tests.{ltb-true, leb-true, eqb-true}
 use lib.Dec.{leb}
@@ -22,14 +22,14 @@ use Rattle.model.specs.Lists.{mem, allb, allBelow}
 use Rattle.model.specs.Tree.{node, evaluation}
 use Rattle.model.specs.Sound.{tree}
 use Rattle.model.specs.Search.{blank, entry, entries, goals, bound, boundOf}
-use Rattle.model.specs.Valid.{listTests, knownWithin, closesGoal, solutionCloses, entryTests, everyb, bestTests, bestCloses, heldCost, isHeld, bestHeld, validTests, valid}
-use Rattle.model.proofs.Bools.{and-true, true-and, all-true}
+use Rattle.model.specs.Valid.{listTests, knownWithin, closesGoal, solutionCloses, entryTests, everyb, bestTests, bestCloses, heldCost, validTests, valid}
+use Rattle.model.proofs.Bools.{and-true, all-true}
 use Rattle.model.proofs.Valid.{entries-length, entries-at}
 use Rattle.layout.specs.Read.{readCache}
 use Rattle.sound.specs.Facts.{SoundWords}
 use Rattle.sound.proofs.Facts.{trees-length, sound-cache, vertices-read}
 use Rattle.grow.specs.Grow.{InUse}
-use Rattle.memory.specs.Memory.{HasNode, Listed, Holds, CanJudge, Entered, FitsWords}
+use Rattle.memory.specs.Memory.{HasNode, Listed, Holds, CanJudge, FitsWords}
 use Rattle.memory.proofs.Lists.{list-at, below-at}
 
 -- ---- an entry's tree
@@ -50,10 +50,6 @@ module _ {ws : List ℕ} {e : TreeMemory} {n : ℕ} (c : CanJudge ws e) (z : e .
       → Bound k ≡ heldCost (readCache ws .domain) (tree (readCache ws .trees) (e .tree)) (e .solution)
   held-costs h = ap Bound h ∙ sym (ap (heldCost (readCache ws .domain) (tree (readCache ws .trees) (e .tree))) z)
 
--- the entry before i
-pub can-judge : {ws : List ℕ} {s : Search} → SoundWords ws → FitsWords ws s → (i : ℕ) → i ≤ s .«tree_count» → 0 < i → CanJudge ws (entry s (i - 1))
-can-judge ok f i b h = (ok, f .held (i - 1) (omega arith))
-
 -- ---- the best
 
 module _ {ws : List ℕ} {s : Search} (ok : SoundWords ws) (f : FitsWords ws s) {i n : ℕ} (e : s .«best_solution» ≡ Best i n) where
@@ -67,48 +63,47 @@ module _ {ws : List ℕ} {s : Search} (ok : SoundWords ws) (f : FitsWords ws s) 
       → Bound k ≡ bound (readCache ws .domain) (readCache ws .trees) s
   best-cost z = ap Bound z ∙ sym (ap (boundOf (readCache ws .domain) (readCache ws .trees) s) e)
 
--- a finished search has the solution that it answers
-pub answered : (s : Search) {i n : ℕ} {r : Bool} → not (s .exhausted) ≡ false → s .«best_solution» ≡ Best i n → r ≡ isHeld (entry s i .solution)
-    → r ≡ (not (s .exhausted) || bestHeld s (s .«best_solution»))
-answered s x e h = h ∙ sym (ap₂ (λ (b : Bool) (o : BestSolution). b || bestHeld s o) x e)
-
 -- ---- the facts of a record that passed its tests
 
-pub lists-at : (m : ℕ) (s : Search) → (allb (listTests s) && allBelow m (goals s)) ≡ true → Listed s × (allBelow m (goals s) ≡ true)
-lists-at m s e =
-    let p = and-true (allb (listTests s)) (allBelow m (goals s)) e in
-    let l = all-true (listTests s) (p .0) in
-    (record { trees = eqb-true _ _ (l .0); entries = leb-true _ _ (l .1 .0); keys = eqb-true _ _ (l .1 .1 .0); goals = leb-true _ _ (l .1 .1 .1 .0) }, p .1)
+pub listed-fits : {s : Search} → Listed s → s .«tree_count» ≤ length (s .trees)
+listed-fits l = omega (arith, l .trees, l .entries)
+
+listed-at : (s : Search) → allb (listTests s) ≡ true → Listed s
+listed-at s e =
+    let l = all-true (listTests s) e in
+    record { trees = eqb-true _ _ (l .0); entries = leb-true _ _ (l .1 .0); keys = eqb-true _ _ (l .1 .1 .0); goals = leb-true _ _ (l .1 .1 .1 .0) }
+
+module _ {ws : List ℕ} (ok : SoundWords ws) where
+  -- a node that closes a goal is one of its tree
+  pub closes-node : (gs : List ℕ) {i : ℕ} → i < length (readCache ws .trees) → (n : ℕ) → closesGoal gs (tree (readCache ws .trees) i) n ≡ true
+      → n < length (tree (readCache ws .trees) i .nodes)
+  unfolding closesGoal
+  closes-node gs {i} h n e =
+      let v : ℕ = node (tree (readCache ws .trees) i .nodes) n .vertex in
+      sound-cache ws ok .trees .each i h .closer v n (eqb-true _ _ (and-true (mem v gs) _ e .1)) .0
+
+  pub holds-at : (gs : List ℕ) (e : TreeMemory) → allb (entryTests (readCache ws .domain) (readCache ws .trees) gs e) ≡ true → Holds (readCache ws .trees) e
+  holds-at gs e p =
+      let t = all-true (entryTests (readCache ws .domain) (readCache ws .trees) gs e) p in
+      let slot : e .tree < length (readCache ws .trees) = ltb-true _ _ (t .0) in
+      record {
+        slot = slot;
+        node = λ n z. closes-node gs slot n (subst (λ (o : Solution). solutionCloses gs (tree (readCache ws .trees) (e .tree)) o ≡ true) z (t .1 .1 .0));
+      }
 
 module _ (ws : List ℕ) (s : Search) (ok : SoundWords ws) (l : Listed s) where
   abbrev passes : TreeMemory → Bool
   passes e = allb (entryTests (readCache ws .domain) (readCache ws .trees) (goals s) e)
 
-  closes-node : {i : ℕ} → i < length (readCache ws .trees) → (n : ℕ) → closesGoal (goals s) (tree (readCache ws .trees) i) n ≡ true
-      → n < length (tree (readCache ws .trees) i .nodes)
-  unfolding closesGoal
-  closes-node {i} h n e =
-      let v : ℕ = node (tree (readCache ws .trees) i .nodes) n .vertex in
-      sound-cache ws ok .trees .each i h .closer v n (eqb-true _ _ (and-true (mem v (goals s)) _ e .1)) .0
-
-  holds-at : (e : TreeMemory) → passes e ≡ true → Holds (readCache ws .trees) e
-  holds-at e p =
-      let t = all-true (entryTests (readCache ws .domain) (readCache ws .trees) (goals s) e) p in
-      let slot : e .tree < length (readCache ws .trees) = ltb-true _ _ (t .0) in
-      record { slot = slot; node = λ n z. closes-node slot n (subst (λ (o : Solution). solutionCloses (goals s) (tree (readCache ws .trees) (e .tree)) o ≡ true) z (t .1 .1 .0)) }
-
   module _ (each : everyb passes (entries s) ≡ true) where
-    held-at : (i : ℕ) → i < s .«tree_count» → Holds (readCache ws .trees) (entry s i)
+    pub held-at : (i : ℕ) → i < s .«tree_count» → Holds (readCache ws .trees) (entry s i)
     unfolding everyb
     held-at i h =
-        let fits : s .«tree_count» ≤ length (s .trees) = omega (arith, l .trees, l .entries) in
-        holds-at (entry s i) (subst (λ (e : TreeMemory). passes e ≡ true) (entries-at s fits i h)
+        let fits = listed-fits l in
+        holds-at ok (goals s) (entry s i) (subst (λ (e : TreeMemory). passes e ≡ true) (entries-at s fits i h)
         (list-at passes blank (everyb passes) refl (λ x xs. refl) (entries s) each i (omega (arith, entries-length s fits))))
 
-    pub entered-at : Entered ws s
-    entered-at = record { sound = ok; listed = l; held = held-at }
-
-    pub fits-at : allBelow (getD ws 1 0) (goals s) ≡ true → bestCloses (readCache ws .trees) s (s .«best_solution») ≡ true → FitsWords ws s
+    fits-at : allBelow (getD ws 1 0) (goals s) ≡ true → bestCloses (readCache ws .trees) s (s .«best_solution») ≡ true → FitsWords ws s
     fits-at below best = record {
       listed = l;
       goals = λ i h.
@@ -118,7 +113,7 @@ module _ (ws : List ℕ) (s : Search) (ok : SoundWords ws) (l : Listed s) where
       best = λ i n z.
           let q = all-true (bestTests (readCache ws .trees) s i n) (subst (λ (x : BestSolution). bestCloses (readCache ws .trees) s x ≡ true) z best) in
           let counted : i < s .«tree_count» = ltb-true _ _ (q .0) in
-          (counted, closes-node (held-at i counted .slot) n (q .1 .0));
+          (counted, closes-node ok (goals s) (held-at i counted .slot) n (q .1 .0));
     }
 
 pub valid-fits : (ws : List ℕ) (s : Search) → SoundWords ws → valid (readCache ws .domain) (readCache ws .trees) s ≡ true → FitsWords ws s
@@ -126,5 +121,4 @@ unfolding valid
 valid-fits ws s ok e =
     let r = all-true (validTests (readCache ws .domain) (readCache ws .trees) s) e in
     let below = subst (λ (m : ℕ). allBelow m (goals s) ≡ true) (vertices-read ok) (r .1 .0) in
-    let l = lists-at (getD ws 1 0) s (true-and _ _ (r .0) below) .0 in
-    fits-at ws s ok l (r .1 .1 .0) below (r .1 .1 .1 .0)
+    fits-at ws s ok (listed-at s (r .0)) (r .1 .1 .0) below (r .1 .1 .1 .0)

@@ -1,7 +1,7 @@
--- A test of all elements of a list, gone through from the front: what is known of the elements passed.
+-- A test of all elements of a list: what it says of each, and what is known of the elements passed from the front.
 -- Assumes nothing.
 use mathlib.Core.Path.{_≡_, refl, sym, ap, _∙_}
-use mathlib.Core.Bool.{Bool, true, false, _&&_}
+use mathlib.Core.Bool.{Bool, true, false, _&&_, and-false}
 use mathlib.Core.List.{List, [], _∷_}
 use Prim.Native.Nat.{ℕ, zero, suc, _+_, _<_, _≤_}
 use native.Mathlib.Numerals.{add-one}
@@ -20,18 +20,20 @@ module _ {A : Type 0} (p : A → Bool) (z : A) (all : List A → Bool) (none : a
   list-at (x ∷ xs) e zero h = and-true (p x) (all xs) (sym (more x xs) ∙ e) .0
   list-at (x ∷ xs) e (suc i) h = list-at xs (and-true (p x) (all xs) (sym (more x xs) ∙ e) .1) i (omega arith)
 
+  pub list-fails : (xs : List A) (i : ℕ) → i < length xs → p (getD xs i z) ≡ false → false ≡ all xs
+  list-fails [] i h f = absurd (omega arith)
+  list-fails (x ∷ xs) zero h f = sym (more x xs ∙ ap (λ (b : Bool). b && all xs) f)
+  list-fails (x ∷ xs) (suc i) h f = sym (more x xs ∙ ap (λ (b : Bool). p x && b) (sym (list-fails xs i (omega arith) f)) ∙ and-false (p x))
+
   -- all pass exactly if those from place i on pass
   module _ (xs : List A) (i : ℕ) (e : all (drop i xs) ≡ all xs) where
     split : i < length xs → all xs ≡ (p (getD xs i z) && all (drop (suc i) xs))
     split h = sym e ∙ ap all (drop-cons xs i z h) ∙ more (getD xs i z) (drop (suc i) xs)
 
-    pub list-fails : i < length xs → p (getD xs i z) ≡ false → false ≡ all xs
-    list-fails h f = sym (split h ∙ ap (λ (b : Bool). b && all (drop (suc i) xs)) f)
-
-    pub list-next : i < length xs → p (getD xs i z) ≡ true → all (drop (i + 1) xs) ≡ all xs
+    list-next : i < length xs → p (getD xs i z) ≡ true → all (drop (i + 1) xs) ≡ all xs
     list-next h t = rw add-one (sym (split h ∙ ap (λ (b : Bool). b && all (drop (suc i) xs)) t))
 
-    pub list-pass : length xs ≤ i → true ≡ all xs
+    list-pass : length xs ≤ i → true ≡ all xs
     list-pass h = sym (ap all (drop-of-length-le xs h) ∙ none) ∙ e
 
 -- ---- all below n; w: the number read at place i
@@ -40,10 +42,10 @@ module _ (n : ℕ) (vs : List ℕ) where
   pub below-at : allBelow n vs ≡ true → (i : ℕ) → i < length vs → ltb (getD vs i 0) n ≡ true
   below-at = list-at (λ (x : ℕ). ltb x n) 0 (allBelow n) refl (λ x xs. refl) vs
 
-  module _ (i : ℕ) (e : allBelow n (drop i vs) ≡ allBelow n vs) where
-    pub below-fails : {w : ℕ} → w ≡ getD vs i 0 → i < length vs → n ≤ w → false ≡ allBelow n vs
-    below-fails at h b = list-fails (λ (x : ℕ). ltb x n) 0 (allBelow n) refl (λ x xs. refl) vs i e h (le-ltb (getD vs i 0) n (omega arith))
+  pub below-fails : (i : ℕ) {w : ℕ} → w ≡ getD vs i 0 → i < length vs → n ≤ w → false ≡ allBelow n vs
+  below-fails i at h b = list-fails (λ (x : ℕ). ltb x n) 0 (allBelow n) refl (λ x xs. refl) vs i h (le-ltb (getD vs i 0) n (omega arith))
 
+  module _ (i : ℕ) (e : allBelow n (drop i vs) ≡ allBelow n vs) where
     pub below-next : {w : ℕ} → w ≡ getD vs i 0 → i < length vs → w < n → allBelow n (drop (i + 1) vs) ≡ allBelow n vs
     below-next at h b = list-next (λ (x : ℕ). ltb x n) 0 (allBelow n) refl (λ x xs. refl) vs i e h (lt-ltb (getD vs i 0) n (omega arith))
 

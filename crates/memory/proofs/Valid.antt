@@ -1,85 +1,178 @@
 -- A record tested as a whole: what each test leaves to the next, and that all of them are the definition's.
 -- Assumes nothing.
 use mathlib.Core.Path.{_≡_, refl, sym, ap, ap₂, _∙_}
-use mathlib.Core.Bool.{Bool, true, false, not, _&&_, _||_, and-assoc}
+use mathlib.Core.Bool.{Bool, true, false, not, _&&_, _||_, and-true, or-true, and-assoc}
 use mathlib.Core.List.{List}
-use Prim.Native.Nat.{ℕ, _<_}
-use borrow.Author.Tests.{not-true, not-false}
-use lib.ListN.{getD, drop}
+use Prim.Native.Nat.{ℕ, suc, _-_, _<_, _≤_}
+use native.Mathlib.Omega.{arith}
+use borrow.Author.Tests.{lt-ltb, le-ltb, le-leb, lt-leb, eq-eqb, not-true, not-false}
+use lib.ListN.{length, getD, take, drop, drop-of-length-le}
+use lib.Seq.{drop-cons}
 use Rattle.model.specs.declared.CostBound.{CostBound}
-use Rattle.model.specs.declared.BestSolution.the-variants.{Best}
+use Rattle.model.specs.declared.CostBound.the-variants.{Unbounded}
+use Rattle.model.specs.declared.BestSolution.{BestSolution}
+use Rattle.model.specs.declared.BestSolution.the-variants.{NoBest, Best}
+use Rattle.model.specs.declared.TreeMemory.{TreeMemory}
 use Rattle.model.specs.declared.Search.{Search}
 use Rattle.model.specs.Lists.{allb, allBelow}
 use Rattle.model.specs.Graph.{vertexCount}
-use Rattle.model.specs.Search.{entries, goals, bound}
-use Rattle.model.specs.Valid.{listTests, entryTests, everyb, bestCloses, leastHeld, sameCost, bestHeld, validTests, valid}
-use Rattle.model.proofs.Bools.{and-true}
+use Rattle.model.specs.Sound.{tree}
+use Rattle.model.specs.Search.{blank, entry, entries, goals, boundOf}
+use Rattle.model.specs.Valid.{listTests, entryTests, everyb, bestTests, bestCloses, heldCost, lesser, sameCost, bestHeld, validTests, valid}
+use Rattle.model.proofs.Bools.{true-and, true-given}
+use Rattle.model.proofs.Valid.{entries-length, entries-at}
 use Rattle.layout.specs.Read.{readCache}
 use Rattle.sound.specs.Facts.{SoundWords}
 use Rattle.sound.proofs.Facts.{vertices-read}
-use Rattle.sound.proofs.Tests.{all-fails, read-last}
-use Rattle.memory.specs.Memory.{Listed, Entered, FitsWords}
-use Rattle.memory.proofs.Fits.{lists-at, entered-at, fits-at, best-few}
+use Rattle.sound.proofs.Tests.{all-fails}
+use Rattle.grow.specs.Grow.{InUse}
+use Rattle.memory.specs.Memory.{Listed, CanJudge, bestNodeTests}
+use Rattle.memory.proofs.Lists.{list-fails}
+use Rattle.memory.proofs.Fits.{in-use, listed-fits, holds-at, held-at}
+use Rattle.memory.proofs.Costs.{Least, least-none, least-more, least-all}
 
-module _ (ws : List ℕ) (s : Search) (ok : SoundWords ws) where
+-- the goals as they are lent
+abbrev goalsLent : Search → List ℕ
+goalsLent s = take (s .«goal_count» - 0) (s .«goal_keys»)
+
+goals-lent : (s : Search) → goalsLent s ≡ goals s
+goals-lent s = let whole : s .«goal_count» - 0 ≡ s .«goal_count» = omega arith in ap (λ (n : ℕ). take n (s .«goal_keys»)) whole
+
+abbrev passes : List ℕ → Search → TreeMemory → Bool
+passes ws s e = allb (entryTests (readCache ws .domain) (readCache ws .trees) (goals s) e)
+
+-- what is known with i entries left: those gone through pass, and least is what the cheapest of the solutions that they hold costs
+pub record Passed (ws : List ℕ) (s : Search) (least : CostBound) (i : ℕ) : Type 0 where
+  pub sound : SoundWords ws
+  pub costs : Least (readCache ws .domain) (readCache ws .trees) s least i
+  pub goals : allBelow (vertexCount (readCache ws .domain .graph)) (goals s) ≡ true
+  pub each : everyb (passes ws s) (drop i (entries s)) ≡ true
+
+module _ (ws : List ℕ) (s : Search) where
   abbrev tests : List Bool
   tests = validTests (readCache ws .domain) (readCache ws .trees) s
 
   abbrev is : Bool
   is = valid (readCache ws .domain) (readCache ws .trees) s
 
-  -- a: the lists
-  module _ {a : Bool} (lists : a ≡ (allb (listTests s) && allBelow (getD ws 1 0) (goals s))) where
-    read : a ≡ (allb (listTests s) && allBelow (vertexCount (readCache ws .domain .graph)) (goals s))
-    read = lists ∙ ap (λ (m : ℕ). allb (listTests s) && allBelow m (goals s)) (sym (vertices-read ok))
+  -- ---- the counts, the best's entry, and the goals
 
-    pub lists-fail : not a ≡ true → false ≡ is
+  pub many-trees : 64 < s .«tree_count» → false ≡ is
+  unfolding valid
+  many-trees h = sym (all-fails tests 0 (all-fails (listTests s) 1 (lt-leb (s .«tree_count») 64 h)))
+
+  pub many-goals : 64 < s .«goal_count» → false ≡ is
+  unfolding valid
+  many-goals h = sym (all-fails tests 0 (all-fails (listTests s) 3 (lt-leb (s .«goal_count») 64 h)))
+
+  pub best-beyond : {i n : ℕ} → s .«best_solution» ≡ Best i n → s .«tree_count» ≤ i → false ≡ is
+  unfolding valid
+  best-beyond {i} {n} e h =
+      let two : List Bool = bestTests (readCache ws .trees) s i n in
+      sym (all-fails tests 3 (ap (bestCloses (readCache ws .trees) s) e ∙ all-fails two 0 (le-ltb i (s .«tree_count») h)))
+
+  -- r: whether the goals are vertices
+  module _ (ok : SoundWords ws) {n : ℕ} {r : Bool} (z : n ≡ getD ws 1 0) (below : r ≡ allBelow n (goalsLent s)) where
+    read : r ≡ allBelow (vertexCount (readCache ws .domain .graph)) (goals s)
+    read = below ∙ ap₂ allBelow (z ∙ sym (vertices-read ok)) (goals-lent s)
+
+    pub goals-refuse : not r ≡ true → false ≡ is
     unfolding valid
-    lists-fail f =
-        let rest : Bool = allb (drop 2 tests) in
-        let found : allb (listTests s) && allBelow (vertexCount (readCache ws .domain .graph)) (goals s) ≡ false = sym read ∙ not-true a f in
-        sym (sym (and-assoc (allb (listTests s)) (allBelow (vertexCount (readCache ws .domain .graph)) (goals s)) rest) ∙ ap (λ (b : Bool). b && rest) found)
+    goals-refuse f = sym (all-fails tests 1 (sym read ∙ not-true r f))
 
-    module _ (pass : not a ≡ false) where
-      both : Listed s × (allBelow (getD ws 1 0) (goals s) ≡ true)
-      both = lists-at (getD ws 1 0) s (sym lists ∙ not-false a pass)
+    pub none-passed : not r ≡ false → Listed s → Passed ws s Unbounded (s .«tree_count»)
+    unfolding everyb
+    none-passed f l = record {
+      sound = ok;
+      costs = least-none _ _ l;
+      goals = sym read ∙ not-false r f;
+      each = ap (everyb (passes ws s)) (drop-of-length-le (entries s) {i = s .«tree_count»} (omega (arith, entries-length s (listed-fits l))));
+    }
 
-      pub can-enter : SoundWords ws × Listed s
-      can-enter = (ok, both .0)
+-- ---- the entry before i; r: whether it passes
 
-      -- b: the entries
-      module _ {b : Bool} (each : b ≡ everyb (λ e. allb (entryTests (readCache ws .domain) (readCache ws .trees) (goals s) e)) (entries s)) where
-        pub entries-refuse : not b ≡ true → false ≡ is
-        unfolding valid
-        entries-refuse f = sym (all-fails tests 2 (sym each ∙ not-true b f))
+module _ {ws : List ℕ} {s : Search} {least : CostBound} {i : ℕ} (p : Passed ws s least i) where
+  listed : Listed s
+  listed = p .costs .listed
 
-        module _ (all : not b ≡ false) where
-          pub entered : Entered ws s
-          entered = entered-at ws s ok (both .0) (sym each ∙ not-false b all)
+  fits : s .«tree_count» ≤ length (s .trees)
+  fits = listed-fits listed
 
-          -- c: the best
-          module _ {c : Bool} (best : c ≡ bestCloses (readCache ws .trees) s (s .«best_solution»)) where
-            pub best-refuses : not c ≡ true → false ≡ is
-            unfolding valid
-            best-refuses f = sym (all-fails tests 3 (sym best ∙ not-true c f))
+  module _ (h : 0 < i) {r : Bool} (e : r ≡ allb (entryTests (readCache ws .domain) (readCache ws .trees) (goalsLent s) (entry s (i - 1)))) where
+    within : i - 1 < length (entries s)
+    within = omega (arith, p .costs .left, entries-length s fits)
 
-            module _ (closes : not c ≡ false) where
-              pub can-cost : SoundWords ws × FitsWords ws s
-              can-cost = (ok, fits-at ws s ok (both .0) (sym each ∙ not-false b all) (both .1) (sym best ∙ not-false c closes))
+    passed : r ≡ passes ws s (getD (entries s) (i - 1) blank)
+    passed =
+        e
+        ∙ ap (λ (gs : List ℕ). allb (entryTests (readCache ws .domain) (readCache ws .trees) gs (entry s (i - 1)))) (goals-lent s)
+        ∙ sym (ap (passes ws s) (entries-at s fits (i - 1) (omega (arith, p .costs .left))))
 
-              pub best-small : (i n : ℕ) → s .«best_solution» ≡ Best i n → i < 64
-              best-small i n e = best-few ok (can-cost .1) e
+    pub entry-refuses : not r ≡ true → false ≡ valid (readCache ws .domain) (readCache ws .trees) s
+    unfolding valid everyb
+    entry-refuses f =
+        let fails = list-fails (passes ws s) blank (everyb (passes ws s)) refl (λ x xs. refl) (entries s) (i - 1) within (sym passed ∙ not-true r f) in
+        sym (all-fails (validTests (readCache ws .domain) (readCache ws .trees) s) 2 (sym fails))
 
-              -- x, y: what the best costs, and the least held; g: whether these are the same
-              module _ {x y : CostBound} {g : Bool} (costs : x ≡ bound (readCache ws .domain) (readCache ws .trees) s) (least : y ≡ leastHeld (readCache ws .domain) (readCache ws .trees) (entries s)) (same : g ≡ sameCost x y) where
-                pub costs-refuse : not g ≡ true → false ≡ is
-                unfolding valid
-                costs-refuse f = sym (all-fails tests 4 (sym (same ∙ ap₂ sameCost costs least) ∙ not-true g f))
+    module _ (f : not r ≡ false) where
+      pub can-judge : CanJudge ws (entry s (i - 1))
+      can-judge = (p .sound, holds-at (p .sound) (goalsLent s) (entry s (i - 1)) (sym e ∙ not-false r f))
 
-                pub valid-is : not g ≡ false → {r : Bool} → r ≡ (not (s .exhausted) || bestHeld s (s .«best_solution»)) → r ≡ is
-                unfolding valid
-                valid-is f h =
-                    let t = and-true (allb (listTests s)) _ (sym read ∙ not-false a pass) in
-                    h
-                    ∙ read-last {cs = tests} refl 5 refl (t .0) (t .1) (sym each ∙ not-false b all) (sym best ∙ not-false c closes)
-                    (sym (same ∙ ap₂ sameCost costs least) ∙ not-false g f)
+      pub one-passed : {held next : CostBound}
+          → held ≡ heldCost (readCache ws .domain) (tree (readCache ws .trees) (entry s (i - 1) .tree)) (entry s (i - 1) .solution)
+          → next ≡ lesser held least → Passed ws s next (i - 1)
+      unfolding everyb
+      one-passed a b = record {
+        sound = p .sound;
+        costs = least-more (p .costs) h a b;
+        goals = p .goals;
+        each =
+            let back : suc (i - 1) ≡ i = omega arith in
+            ap (everyb (passes ws s)) (drop-cons (entries s) (i - 1) blank within)
+            ∙ true-and _ _ (sym passed ∙ not-false r f) (ap (λ (k : ℕ). everyb (passes ws s) (drop k (entries s))) back ∙ p .each);
+      }
+
+-- ---- the best, where all entries passed
+
+first-three : (a b c d : Bool) → a ≡ true → b ≡ true → c ≡ true → (a && (b && (c && d))) ≡ d
+first-three a b c d p q r = rw (p, q, r)
+
+module _ {ws : List ℕ} {s : Search} {least : CostBound} {i : ℕ} (p : Passed ws s least i) (end : i ≤ 0) where
+  all-each : everyb (passes ws s) (entries s) ≡ true
+  all-each = let z : 0 ≡ i = omega arith in ap (λ (k : ℕ). everyb (passes ws s) (drop k (entries s))) z ∙ p .each
+
+  -- the tests of the best
+  abbrev bestPasses : CostBound → BestSolution → Bool
+  bestPasses k o =
+      bestCloses (readCache ws .trees) s o
+      && (sameCost (boundOf (readCache ws .domain) (readCache ws .trees) s o) k && ((not (s .exhausted) || bestHeld s o) && true))
+
+  best-decides : {o : BestSolution} → s .«best_solution» ≡ o → bestPasses least o ≡ valid (readCache ws .domain) (readCache ws .trees) s
+  unfolding valid
+  best-decides {o} e =
+      let l = listed p in
+      ap₂ bestPasses (least-all (p .costs) end) (sym e)
+      ∙ sym (first-three _ _ _ _
+      (true-given (listTests s) (eq-eqb _ _ (l .trees)) (le-leb _ _ (l .entries)) (eq-eqb _ _ (l .keys)) (le-leb _ _ (l .goals)))
+      (p .goals)
+      all-each)
+
+  pub no-best : s .«best_solution» ≡ NoBest → {r : Bool} → r ≡ sameCost Unbounded least → r ≡ valid (readCache ws .domain) (readCache ws .trees) s
+  no-best e h =
+      h
+      ∙ sym (ap (λ (b : Bool). sameCost Unbounded least && (b && true)) (or-true (not (s .exhausted))) ∙ and-true (sameCost Unbounded least))
+      ∙ best-decides e
+
+  module _ {j n : ℕ} (e : s .«best_solution» ≡ Best j n) (h : j < s .«tree_count») where
+    pub best-in-use : InUse ws (entry s j .tree)
+    best-in-use = in-use (p .sound) (held-at ws s (p .sound) (listed p) all-each j h .slot)
+
+    pub best-is : {r : Bool} → r ≡ allb (bestNodeTests (readCache ws .domain) (readCache ws .trees) (goalsLent s) (entry s j) n least (s .exhausted))
+        → r ≡ valid (readCache ws .domain) (readCache ws .trees) s
+    best-is c =
+        let three : List Bool = bestNodeTests (readCache ws .domain) (readCache ws .trees) (goals s) (entry s j) n least (s .exhausted) in
+        let closes : Bool = getD three 0 true in
+        c
+        ∙ ap (λ (gs : List ℕ). allb (bestNodeTests (readCache ws .domain) (readCache ws .trees) gs (entry s j) n least (s .exhausted))) (goals-lent s)
+        ∙ sym (ap (λ (b : Bool). (b && (closes && true)) && allb (drop 1 three)) (lt-ltb j (s .«tree_count») h) ∙ and-assoc closes true (allb (drop 1 three)))
+        ∙ best-decides e

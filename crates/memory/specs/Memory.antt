@@ -1,16 +1,21 @@
 -- What the functions on a search record and the words of its cache ask for.
 -- Assumes nothing.
 use mathlib.Core.Path.{_≡_}
-use mathlib.Core.List.{List}
+use mathlib.Core.Bool.{Bool, not, _||_}
+use mathlib.Core.List.{List, [], _∷_}
 use Prim.Native.Nat.{ℕ, _<_, _≤_}
 use lib.ListN.{length, getD}
+use Rattle.model.specs.declared.CostBound.{CostBound}
+use Rattle.model.specs.declared.CostBound.the-variants.{Bound}
 use Rattle.model.specs.declared.Solution.the-variants.{At}
 use Rattle.model.specs.declared.BestSolution.the-variants.{Best}
 use Rattle.model.specs.declared.TreeMemory.{TreeMemory}
 use Rattle.model.specs.declared.Search.{Search}
+use Rattle.model.specs.Graph.{Domain}
 use Rattle.model.specs.Tree.{Tree}
 use Rattle.model.specs.Sound.{tree}
-use Rattle.model.specs.Search.{entry}
+use Rattle.model.specs.Search.{entry, solutionCost}
+use Rattle.model.specs.Valid.{closesGoal, sameCost, isHeld}
 use Rattle.layout.specs.Layout.{nodeAt}
 use Rattle.layout.specs.Read.{readCache}
 use Rattle.tree.specs.Tree.{Formed, HasVertex}
@@ -42,12 +47,6 @@ pub record Holds (ts : List Tree) (e : TreeMemory) : Type 0 where
 abbrev pub CanJudge : List ℕ → TreeMemory → Type 0
 CanJudge ws e = SoundWords ws × Holds (readCache ws .trees) e
 
--- the entries of a record are in order
-pub record Entered (ws : List ℕ) (s : Search) : Type 0 where
-  pub sound : SoundWords ws
-  pub listed : Listed s
-  pub held : (i : ℕ) → i < s .«tree_count» → Holds (readCache ws .trees) (entry s i)
-
 -- of refusal 8 what keeps a record's numbers in place: no "wanted number is M or more", no "entry's tree .. not in use", and solutions and best
 -- are nodes of their trees
 pub record Fits (m : ℕ) (ts : List Tree) (s : Search) : Type 0 where
@@ -58,3 +57,9 @@ pub record Fits (m : ℕ) (ts : List Tree) (s : Search) : Type 0 where
 
 abbrev pub FitsWords : List ℕ → Search → Type 0
 FitsWords ws s = Fits (getD ws 1 0) (readCache ws .trees) s
+
+-- what node n of an entry's tree has to pass to be the best of a record, finished or not: least is what the cheapest of the solutions held costs
+abbrev pub bestNodeTests : Domain → List Tree → List ℕ → TreeMemory → ℕ → CostBound → Bool → List Bool
+bestNodeTests d ts gs e n least x =
+    let t = tree ts (e .tree) in
+    closesGoal gs t n ∷ sameCost (Bound (solutionCost d (t .nodes) n)) least ∷ (not x || isHeld (e .solution)) ∷ []

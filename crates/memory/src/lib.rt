@@ -11,49 +11,24 @@ use model::TreeMemory;
 use tree::partial_keyed_closed_set::ClosedStatus;
 use tree::partial_keyed_closed_set::status;
 ghost use mathlib.Core.Path.{_≡_};
-ghost use mathlib.Core.Bool.{_&&_, _||_, not};
-ghost use Prim.Native.Nat.{_<_};
-ghost use lib.ListN.{getD};
 ghost use Rattle.model.specs.Lists.{allb, allBelow};
 ghost use Rattle.model.specs.Tree.{evaluation};
 ghost use Rattle.model.specs.Sound.{tree};
-ghost use Rattle.model.specs.Search.{goals, entries, bound};
-ghost use Rattle.model.specs.Valid.{valid, listTests, knownWithin, closesGoal, entryTests, everyb, bestCloses, heldCost, leastHeld, lesser, sameCost, isHeld, bestHeld};
+ghost use Rattle.model.specs.Search.{bound};
+ghost use Rattle.model.specs.Valid.{valid, knownWithin, closesGoal, entryTests, heldCost, lesser, sameCost, isHeld};
 ghost use Rattle.layout.specs.Read.{readCache};
 ghost use Rattle.tree.specs.Tree.{treeOf};
 ghost use Rattle.sound.specs.Facts.{SoundWords};
 ghost use Rattle.grow.specs.Grow.{InUse};
-ghost use Rattle.memory.specs.Memory.{Listed, Entered, FitsWords, HasNode, HasVertices, CanJudge};
+ghost use Rattle.memory.specs.Memory.{FitsWords, HasNode, HasVertices, CanJudge, bestNodeTests};
 
 // 01's limit of entries, and of goals.
 pub const MAX_ENTRIES: usize = 64;
 
-// Whether a record is not strange.
+// Whether a record is not strange. It is gone through here, for each function that it is handed to copies it.
 pub fn is_valid(words: &[u32], search: Search) -> bool
     requires { ⌜ SoundWords (now words) ⌝ }
     ensures { λ r. ⌜ r ≡ valid (readCache (now (words .entry)) .domain) (readCache (now (words .entry)) .trees) search ⌝ }
-{
-    if !lists_are_valid(words, search) {
-        return false;
-    }
-    if !entries_are_valid(words, search) {
-        return false;
-    }
-    if !best_is_valid(words, search) {
-        return false;
-    }
-    let best = cost_bound(words, search);
-    let least = least_held(words, search);
-    if !is_same(best, least) {
-        return false;
-    }
-    is_answered(search)
-}
-
-// The counts, and the goals.
-fn lists_are_valid(words: &[u32], search: Search) -> bool
-    requires { ⌜ SoundWords (now words) ⌝ }
-    ensures { λ r. ⌜ r ≡ (allb (listTests search) && allBelow (getD (now (words .entry)) 1 0) (goals search)) ⌝ }
 {
     if MAX_ENTRIES < search.tree_count {
         return false;
@@ -63,7 +38,32 @@ fn lists_are_valid(words: &[u32], search: Search) -> bool
     }
     let keys = search.goal_keys;
     let count = search.goal_count;
-    are_vertices(&keys[0..count], layout::header(words, layout::VERTICES))
+    let goals = &keys[0..count];
+    if !are_vertices(goals, layout::header(words, layout::VERTICES)) {
+        return false;
+    }
+    let mut least = CostBound::Unbounded;
+    let mut i = search.tree_count;
+    while 0 < i {
+        i -= 1;
+        let memory = search.trees[i];
+        if !entry_is_valid(words, memory, goals) {
+            return false;
+        }
+        let held = held_cost(words, memory);
+        least = lesser_of(held, least);
+    }
+    let best = search.best_solution;
+    match best {
+        BestSolution::NoBest => is_same(CostBound::Unbounded, least),
+        BestSolution::Best { entry, node } => {
+            if search.tree_count <= entry {
+                return false;
+            }
+            let memory = search.trees[entry];
+            best_is_valid(words, memory, goals, node, least, search.exhausted)
+        }
+    }
 }
 
 // Whether each number of a list is below the count of vertices.
@@ -73,23 +73,6 @@ pub fn are_vertices(list: &[u32], vertices: usize) -> bool
     let mut i = 0;
     while i < list.len() {
         if vertices <= wide(list[i]) {
-            return false;
-        }
-        i += 1;
-    }
-    true
-}
-
-fn entries_are_valid(words: &[u32], search: Search) -> bool
-    requires { ⌜ SoundWords (now words) × Listed search ⌝ }
-    ensures { λ r. ⌜ r ≡ everyb (λ e. allb (entryTests (readCache (now (words .entry)) .domain) (readCache (now (words .entry)) .trees) (goals search) e)) (entries search) ⌝ }
-{
-    let keys = search.goal_keys;
-    let count = search.goal_count;
-    let mut i = 0;
-    while i < search.tree_count {
-        let memory = search.trees[i];
-        if !entry_is_valid(words, memory, &keys[0..count]) {
             return false;
         }
         i += 1;
@@ -153,23 +136,31 @@ fn is_closed_goal(tree: &[u32], edges: usize, goals: &[u32], node: u32) -> bool
     }
 }
 
-fn best_is_valid(words: &[u32], search: Search) -> bool
-    requires { ⌜ Entered (now words) search ⌝ }
-    ensures { λ r. ⌜ r ≡ bestCloses (readCache (now (words .entry)) .trees) search (search .«best_solution») ⌝ }
+// Whether a node may be the best, as one of an entry's tree; least: what the cheapest of the solutions held costs.
+fn best_is_valid(
+    words: &[u32],
+    memory: TreeMemory,
+    goals: &[u32],
+    node: u32,
+    least: CostBound,
+    exhausted: bool,
+) -> bool
+    requires { ⌜ InUse (now words) (memory .tree) ⌝ }
+    ensures { λ r. ⌜ r ≡ allb (bestNodeTests (readCache (now (words .entry)) .domain) (readCache (now (words .entry)) .trees) (now (goals .entry)) memory node least exhausted) ⌝ }
 {
-    let best = search.best_solution;
-    match best {
-        BestSolution::NoBest => true,
-        BestSolution::Best { entry, node } => {
-            if search.tree_count <= entry {
-                return false;
-            }
-            let keys = search.goal_keys;
-            let count = search.goal_count;
-            let memory = search.trees[entry];
-            closes_goal(words, memory.tree, &keys[0..count], node)
-        }
+    if !closes_goal(words, memory.tree, goals, node) {
+        return false;
     }
+    let cost = solution_cost(words, memory.tree, node);
+    if !is_same(CostBound::Bound(cost), least) {
+        return false;
+    }
+    if !exhausted {
+        return true;
+    }
+    // A finished search with a best has the solution that it answers.
+    let solution = memory.solution;
+    is_held(solution)
 }
 
 // What the best costs: the bound of an entry's turn.
@@ -196,22 +187,6 @@ pub fn solution_cost(words: &[u32], slot: usize, node: u32) -> u32
     let at = s.at;
     let end = s.end;
     queue::evaluation(&words[at..end], node)
-}
-
-// What the cheapest of the solutions held costs.
-fn least_held(words: &[u32], search: Search) -> CostBound
-    requires { ⌜ SoundWords (now words) × FitsWords (now words) search ⌝ }
-    ensures { λ r. ⌜ r ≡ leastHeld (readCache (now (words .entry)) .domain) (readCache (now (words .entry)) .trees) (entries search) ⌝ }
-{
-    let mut least = CostBound::Unbounded;
-    let mut i = search.tree_count;
-    while 0 < i {
-        i -= 1;
-        let memory = search.trees[i];
-        let held = held_cost(words, memory);
-        least = lesser_of(held, least);
-    }
-    least
 }
 
 fn held_cost(words: &[u32], memory: TreeMemory) -> CostBound
@@ -254,25 +229,6 @@ fn is_same(a: CostBound, b: CostBound) -> bool
             CostBound::Unbounded => false,
             CostBound::Bound(y) => x == y,
         },
-    }
-}
-
-// A finished search with a best has the solution that it answers.
-fn is_answered(search: Search) -> bool
-    requires { ⌜ ((i n : _) → search .«best_solution» ≡ BestSolution.Best i n → i < 64) ⌝ }
-    ensures { λ r. ⌜ r ≡ (not (search .exhausted) || bestHeld search (search .«best_solution»)) ⌝ }
-{
-    if !search.exhausted {
-        return true;
-    }
-    let best = search.best_solution;
-    match best {
-        BestSolution::NoBest => true,
-        BestSolution::Best { entry, node: _ } => {
-            let memory = search.trees[entry];
-            let solution = memory.solution;
-            is_held(solution)
-        }
     }
 }
 

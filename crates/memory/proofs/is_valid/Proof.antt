@@ -1,109 +1,100 @@
--- `is_valid` meets its contract.
+-- `is_valid` meets its contract: the entries from `i` on are valid, and `least` is what the cheapest of the solutions that they hold costs.
 -- Assumes nothing.
 use borrow.Author.Needs.{needs}
-use Rattle.memory.proofs.Valid.{lists-fail, can-enter, entries-refuse, entered, best-refuses, can-cost, costs-refuse, best-small, valid-is}
+use Rattle.memory.specs.Memory.{Listed}
+use Rattle.memory.proofs.Arrays.{arrays-long}
+use Rattle.memory.proofs.Valid.{Passed, many-trees, many-goals, goals-refuse, none-passed, entry-refuses, can-judge, one-passed, no-best, best-beyond, best-in-use, best-is}
 use Rattle.memory.proofs.is_valid.Statement.{statement}
 use Rattle.memory.proofs.is_valid.Tie as tie
 
-returns : tie.Need-returns
-returns c =
-    let l = c .before in
-    let a = l .before .before in
-    lists-fail (a .args .words .now) (a .args .«search») (a .pre) (l .lists-are-valid .ensures) (c .if1 .taken)
+abbrev Inv-loop : tie.InvT-loop
+Inv-loop words t2 keys count least₀ i₀ least i = Passed words t2 least i
 
-entries-are-valid-requires : tie.Need-entries-are-valid-requires
-entries-are-valid-requires c κs =
-    let l = c .before in
-    let a = l .before .before in
-    can-enter (a .args .words .now) (a .args .«search») (a .pre) (l .lists-are-valid .ensures) (c .if1 .left)
+abbrev μ-loop : tie.MeasureT-loop
+μ-loop words t2 keys count least₀ i₀ least i = i
 
-returns-2 : tie.Need-returns-2
-returns-2 c =
-    let e = c .before in
-    let l = e .before .before in
-    let a = l .before .before in
-    entries-refuse (a .args .words .now) (a .args .«search») (a .pre) (l .lists-are-valid .ensures) (e .before .if1 .left) (e .entries-are-valid .ensures) (c .if2 .taken)
+returns : tie.Need-returns Inv-loop μ-loop
+returns c = search many-trees
 
-best-is-valid-requires : tie.Need-best-is-valid-requires
-best-is-valid-requires c κs =
-    let e = c .before in
-    let l = e .before .before in
-    let a = l .before .before in
-    entered (a .args .words .now) (a .args .«search») (a .pre) (l .lists-are-valid .ensures) (e .before .if1 .left) (e .entries-are-valid .ensures) (c .if2 .left)
+returns-2 : tie.Need-returns-2 Inv-loop μ-loop
+returns-2 c = search many-goals
 
-returns-3 : tie.Need-returns-3
-returns-3 c =
-    let b = c .before in
-    let e = b .before .before in
-    let l = e .before .before in
-    let a = l .before .before in
-    best-refuses (a .args .words .now) (a .args .«search») (a .pre) (l .lists-are-valid .ensures) (e .before .if1 .left) (e .entries-are-valid .ensures) (b .before .if2 .left)
-    (b .best-is-valid .ensures) (c .if3 .taken)
+part-goals-end : tie.Need-part-goals-end Inv-loop μ-loop
+part-goals-end c =
+    let a = c .before .before .before .before .before in
+    search (needs, arrays-long (a .args .t2) _ (a .good .1 .0) .1)
 
-cost-bound-requires : tie.Need-cost-bound-requires
-cost-bound-requires c κs =
-    let b = c .before in
-    let e = b .before .before in
-    let l = e .before .before in
-    let a = l .before .before in
-    can-cost (a .args .words .now) (a .args .«search») (a .pre) (l .lists-are-valid .ensures) (e .before .if1 .left) (e .entries-are-valid .ensures) (b .before .if2 .left)
-    (b .best-is-valid .ensures) (c .if3 .left)
+returns-3 : tie.Need-returns-3 Inv-loop μ-loop
+returns-3 c = search goals-refuse
 
-least-held-requires : tie.Need-least-held-requires
-least-held-requires c κs =
-    let b = c .before .before in
-    let e = b .before .before in
-    let l = e .before .before in
-    let a = l .before .before in
-    can-cost (a .args .words .now) (a .args .«search») (a .pre) (l .lists-are-valid .ensures) (e .before .if1 .left) (e .entries-are-valid .ensures) (b .before .if2 .left)
-    (b .best-is-valid .ensures) (c .before .if3 .left)
+loop-holds : tie.Need-loop-holds Inv-loop μ-loop
+loop-holds c =
+    let v = c .before in
+    let g = v .before .before .before .before .before in
+    let a = g .before .before .before in
+    let long = arrays-long (a .args .t2) _ (a .good .1 .0) in
+    let listed : Listed (a .args .t2) = record {
+      trees = long .0;
+      entries = g .before .if1 .left;
+      keys = long .1;
+      goals = g .if2 .left;
+    } in
+    none-passed (a .args .words .now) (a .args .t2) (a .pre) (v .before .header .ensures) (v .are-vertices .ensures) (c .if3 .left) listed
 
-returns-4 : tie.Need-returns-4
-returns-4 c =
-    let h = c .before .before in
-    let b = h .before .before .before in
-    let e = b .before .before in
-    let l = e .before .before in
-    let a = l .before .before in
-    costs-refuse (a .args .words .now) (a .args .«search») (a .pre) (l .lists-are-valid .ensures) (e .before .if1 .left) (e .entries-are-valid .ensures) (b .before .if2 .left)
-    (b .best-is-valid .ensures) (h .before .before .if3 .left)
-    (h .before .cost-bound .ensures) (h .least-held .ensures) (c .before .is-same .ensures) (c .if4 .taken)
+returns-4 : tie.Need-returns-4 Inv-loop μ-loop
+returns-4 c = search entry-refuses
 
-is-answered-requires : tie.Need-is-answered-requires
-is-answered-requires c κs =
-    let i = c .before .before .before .before in
-    let b = i .before in
-    let e = b .before .before in
-    let l = e .before .before in
-    let a = l .before .before in
-    best-small (a .args .words .now) (a .args .«search») (a .pre) (l .lists-are-valid .ensures) (e .before .if1 .left) (e .entries-are-valid .ensures) (b .before .if2 .left)
-    (b .best-is-valid .ensures) (i .if3 .left)
+held-cost-requires : tie.Need-held-cost-requires Inv-loop μ-loop
+held-cost-requires c κs =
+    let v = c .before in
+    let t = v .before .before in
+    can-judge (t .before .loop .inv) (t .loop-test .taken) (v .entry-is-valid .ensures) (c .if4 .left)
 
-returns-5 : tie.Need-returns-5
-returns-5 c =
-    let g = c .before in
-    let h = g .before .before in
-    let b = h .before .before .before in
-    let e = b .before .before in
-    let l = e .before .before in
-    let a = l .before .before in
-    valid-is (a .args .words .now) (a .args .«search») (a .pre) (l .lists-are-valid .ensures) (e .before .if1 .left) (e .entries-are-valid .ensures) (b .before .if2 .left)
-    (b .best-is-valid .ensures) (h .before .before .if3 .left)
-    (h .before .cost-bound .ensures) (h .least-held .ensures) (g .before .is-same .ensures) (g .if4 .left) (c .is-answered .ensures)
+loop-again : tie.Need-loop-again Inv-loop μ-loop
+loop-again c = search one-passed
+
+returns-5 : tie.Need-returns-5 Inv-loop μ-loop
+returns-5 c = search best-beyond
+
+best-is-valid-requires : tie.Need-best-is-valid-requires Inv-loop μ-loop
+best-is-valid-requires c κs = search best-in-use
+
+returns-6 : tie.Need-returns-6 Inv-loop μ-loop
+returns-6 c = search no-best
+
+returns-7 : tie.Need-returns-7 Inv-loop μ-loop
+returns-7 c = search best-is
 
 pub is-valid-spec : {M : Type 1} → statement M
 is-valid-spec =
     tie.close
     (tie.spec
-    (λ c κs. search needs)
+    Inv-loop
+    μ-loop
     returns
-    entries-are-valid-requires
     returns-2
-    best-is-valid-requires
+    (λ c. search needs)
+    (λ c. search needs)
+    part-goals-end
+    (λ c κs. search needs)
+    (λ c κs. search needs)
     returns-3
-    cost-bound-requires
-    least-held-requires
+    loop-holds
+    (λ c. search needs)
+    (λ c. search needs)
+    (λ c. search needs)
     (λ c κs. search needs)
     returns-4
-    is-answered-requires
-    returns-5)
+    held-cost-requires
+    (λ c κs. search needs)
+    (λ c. search needs)
+    loop-again
+    (λ c. search needs)
+    (λ c κs. search needs)
+    (λ c. search needs)
+    returns-5
+    (λ c. search needs)
+    (λ c. search needs)
+    best-is-valid-requires
+    returns-6
+    returns-7)
