@@ -32,7 +32,7 @@ pub record HasVertices (l : ℕ) (t : List ℕ) : Type 0 where
   pub formed : Formed l t
   pub vertices : (i : ℕ) → i < getD t 1 0 → HasVertex l t (getD t (nodeAt i) 0)
 
--- the counts of a record are within its arrays: not "a list 64"
+-- the counts of a record are within its arrays, of 64 each
 pub record Listed (s : Search) : Type 0 where
   pub trees : length (s .trees) ≡ 64
   pub entries : s .«tree_count» ≤ 64
