@@ -1,13 +1,15 @@
 -- Header, initial costs, edges and unused words: what the tests answer, one after the other, and what is so if those of the header pass.
 -- Assumes nothing.
 use mathlib.Core.Path.{_≡_, refl, sym, ap, ap₂, _∙_}
-use mathlib.Core.Bool.{Bool, true, false, _&&_}
+use mathlib.Core.Bool.{Bool, true, false, _&&_, and-true, and-assoc}
 use mathlib.Core.List.{List}
 use Prim.Native.Nat.{ℕ, suc, _+_, _-_, _<_, _≤_}
 use native.Mathlib.Omega.{arith}
+use native.Mathlib.Decide.{ℕ-discrete}
 use native.Mathlib.Numerals.{add-one}
-use borrow.Author.Tests.{leb-true, le-ltb, lt-ltb, le-leb, lt-leb, eq-eqb, ne-eqb}
-use lib.Dec.{leb}
+use borrow.Author.Tests.{leb-true, le-ltb, lt-ltb, le-leb, lt-leb, ne-eqb}
+use lib.Bits.{bitOr, or-add-and, and-le-r}
+use lib.Dec.{eqb, leb}
 use lib.ListN.{length, getD, drop, drop-of-length-le}
 use lib.Seq.{drop-cons}
 use Rattle.model.specs.Lists.{allb}
@@ -113,21 +115,26 @@ module _ {m l e : ℕ} {ws : List ℕ} (has : HasGraph m l ws) (h : e < l) where
 
 -- ---- unused words are 0
 
+-- an or is 0 exactly if both are
+or-zeros : (a b : ℕ) → eqb (bitOr a b) 0 ≡ (eqb a 0 && eqb b 0)
+or-zeros a b = elim (ℕ-discrete a 0) [
+  | yes e ↦ ap (λ (x : ℕ). eqb (bitOr x b) 0) e ∙ ap (λ (x : ℕ). eqb x 0 && eqb b 0) (sym e)
+  | no n ↦ ne-eqb (bitOr a b) 0 (λ z. n (omega (arith, or-add-and a b, and-le-r a b)))
+      ∙ ap (λ (x : Bool). x && eqb b 0) (sym (ne-eqb a 0 n))
+]
+
 module _ (ws : List ℕ) (i : ℕ) where
-  pub zeros-end : length ws ≤ i → zerosb (drop i ws) ≡ true
+  pub zeros-end : (k : ℕ) → length ws ≤ i → (eqb k 0 && zerosb (drop i ws)) ≡ eqb k 0
   unfolding zerosb
-  zeros-end h = ap zerosb (drop-of-length-le ws h)
+  zeros-end k h = ap (λ (x : List ℕ). eqb k 0 && zerosb x) (drop-of-length-le ws h) ∙ and-true (eqb k 0)
 
-  pub zeros-fail : i < length ws → (getD ws i 0 ≡ 0 → ⊥) → zerosb (drop i ws) ≡ false
+  -- one word more in the or
+  pub zeros-next : (k : ℕ) → i < length ws → (eqb k 0 && zerosb (drop i ws)) ≡ (eqb (bitOr k (getD ws i 0)) 0 && zerosb (drop (i + 1) ws))
   unfolding zerosb
-  zeros-fail h n = ap zerosb (drop-cons ws i 0 h) ∙ ap (λ (b : Bool). b && zerosb (drop (suc i) ws)) (ne-eqb (getD ws i 0) 0 n)
-
-  pub zeros-next : i < length ws → getD ws i 0 ≡ 0 → zerosb (drop i ws) ≡ zerosb (drop (i + 1) ws)
-  unfolding zerosb
-  zeros-next h z =
-      ap zerosb (drop-cons ws i 0 h)
-      ∙ ap (λ (b : Bool). b && zerosb (drop (suc i) ws)) (eq-eqb (getD ws i 0) 0 z)
-      ∙ rw add-one
+  zeros-next k h =
+      ap (λ (x : List ℕ). eqb k 0 && zerosb x) (drop-cons ws i 0 h)
+      ∙ sym (and-assoc (eqb k 0) (eqb (getD ws i 0) 0) (zerosb (drop (suc i) ws)))
+      ∙ rw (← or-zeros, add-one)
 
 -- the unused nodes, and the unused queue words: n nodes and k queue words are in use
 module _ (l : ℕ) (t : List ℕ) {n q : ℕ} (nodes : n ≡ getD t 1 0) (queue : q ≡ queueAt l) where

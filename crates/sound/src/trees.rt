@@ -354,15 +354,15 @@ fn spare_is_zero(tree: &[u32], edges: usize) -> bool
     is_zero(&tree[queued..closed])
 }
 
+// It looks at every word, with no early exit, so that the compiler takes several at a time: in a sound cache all are 0 anyway.
 pub fn is_zero(words: &[u32]) -> bool
     ensures { λ r. ⌜ r ≡ zerosb (now (words .entry)) ⌝ }
 {
+    let mut bits = 0;
     let mut i = 0;
     while i < words.len() {
-        if words[i] != 0 {
-            return false;
-        }
+        bits |= words[i];
         i += 1;
     }
-    true
+    bits == 0
 }

@@ -41,12 +41,12 @@ pub fn status(tree: &[u32], edges: usize, vertex: usize) -> ClosedStatus
     ClosedStatus::Closed(word - 1)
 }
 
-// How many vertices are closed, counted from the closed words.
+// How many vertices are closed, counted from the closed words. The count is a word, so that the compiler counts four at a time.
 pub fn closed_keys_len(tree: &[u32], edges: usize) -> usize
     requires { ⌜ Formed edges (now tree) ⌝ }
     ensures { λ r. ⌜ r ≡ closedCount (treeOf edges (now (tree .entry)) .closed) ⌝ }
 {
-    let mut count = 0;
+    let mut count: u32 = 0;
     let mut place = layout::closed_at(edges);
     while place < tree.len() {
         if tree[place] != 0 {
@@ -54,7 +54,7 @@ pub fn closed_keys_len(tree: &[u32], edges: usize) -> usize
         }
         place += 1;
     }
-    count
+    wide(count)
 }
 
 // The cheapest closed goal, the first in the list on ties, as the node that closed it.

@@ -1,5 +1,6 @@
 -- `closed_keys_len` meets its contract: at each turn `count` is how many of the closed words before `place` are not 0.
 -- Assumes nothing.
+use mathlib.Core.Path.{_∙_}
 use mathlib.Core.Logic.{⊎-elim}
 use Prim.Native.Nat.{_-_}
 use borrow.Author.Needs.{needs}
@@ -26,7 +27,7 @@ loop-again c =
     (c .if1 .came)
 
 returns : tie.Need-returns Inv-loop μ-loop
-returns c = search counted-all
+returns c = c .wide .ensures ∙ counted-all (c .before .before .loop .inv) (c .before .loop-test .left)
 
 pub closed-keys-len-spec : {M : Type 1} → statement M
 closed-keys-len-spec =
@@ -42,4 +43,5 @@ closed-keys-len-spec =
     (λ c. search needs)
     (λ c. search needs)
     loop-again
+    (λ c κs. search needs)
     returns)
