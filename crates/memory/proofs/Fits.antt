@@ -21,7 +21,7 @@ use Rattle.model.specs.declared.Search.{Search}
 use Rattle.model.specs.Lists.{mem, allb, allBelow}
 use Rattle.model.specs.Tree.{node, evaluation}
 use Rattle.model.specs.Sound.{tree}
-use Rattle.model.specs.Search.{blank, entry, entries, goals, bound, boundOf}
+use Rattle.model.specs.Search.{blank, entry, entries, goals}
 use Rattle.model.specs.Valid.{listTests, knownWithin, closesGoal, solutionCloses, entryTests, everyb, bestTests, bestCloses, heldCost, validTests, valid}
 use Rattle.model.proofs.Bools.{and-true, all-true}
 use Rattle.model.proofs.Valid.{entries-length, entries-at}
@@ -58,10 +58,6 @@ module _ {ws : List ℕ} {s : Search} (ok : SoundWords ws) (f : FitsWords ws s) 
 
   pub best-node : HasNode ws (entry s i .tree) n
   best-node = record { used = in-use ok (f .held i (f .best i n e .0) .slot); node = f .best i n e .1 }
-
-  pub best-cost : {k : ℕ} → k ≡ evaluation (tree (readCache ws .trees) (entry s i .tree) .nodes) n
-      → Bound k ≡ bound (readCache ws .domain) (readCache ws .trees) s
-  best-cost z = ap Bound z ∙ sym (ap (boundOf (readCache ws .domain) (readCache ws .trees) s) e)
 
 -- ---- the facts of a record that passed its tests
 

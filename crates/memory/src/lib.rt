@@ -14,18 +14,17 @@ ghost use mathlib.Core.Path.{_≡_};
 ghost use Rattle.model.specs.Lists.{allb, allBelow};
 ghost use Rattle.model.specs.Tree.{evaluation};
 ghost use Rattle.model.specs.Sound.{tree};
-ghost use Rattle.model.specs.Search.{bound};
 ghost use Rattle.model.specs.Valid.{valid, knownWithin, closesGoal, entryTests, heldCost, lesser, sameCost, isHeld};
 ghost use Rattle.layout.specs.Read.{readCache};
 ghost use Rattle.tree.specs.Tree.{treeOf};
 ghost use Rattle.sound.specs.Facts.{SoundWords};
 ghost use Rattle.grow.specs.Grow.{InUse};
-ghost use Rattle.memory.specs.Memory.{FitsWords, HasNode, HasVertices, CanJudge, bestNodeTests};
+ghost use Rattle.memory.specs.Memory.{HasNode, HasVertices, CanJudge, bestNodeTests};
 
 // 01's limit of entries, and of goals.
 pub const MAX_ENTRIES: usize = 64;
 
-// Whether a record is not strange. It is gone through here, for each function that it is handed to copies it.
+// Whether a record is not strange. All of it is looked at in this one function, for each that it is handed to copies it.
 pub fn is_valid(words: &[u32], search: Search) -> bool
     requires { ⌜ SoundWords (now words) ⌝ }
     ensures { λ r. ⌜ r ≡ valid (readCache (now (words .entry)) .domain) (readCache (now (words .entry)) .trees) search ⌝ }
@@ -161,21 +160,6 @@ fn best_is_valid(
     // A finished search with a best has the solution that it answers.
     let solution = memory.solution;
     is_held(solution)
-}
-
-// What the best costs: the bound of an entry's turn.
-pub fn cost_bound(words: &[u32], search: Search) -> CostBound
-    requires { ⌜ SoundWords (now words) × FitsWords (now words) search ⌝ }
-    ensures { λ r. ⌜ r ≡ bound (readCache (now (words .entry)) .domain) (readCache (now (words .entry)) .trees) search ⌝ }
-{
-    let best = search.best_solution;
-    match best {
-        BestSolution::NoBest => CostBound::Unbounded,
-        BestSolution::Best { entry, node } => {
-            let memory = search.trees[entry];
-            CostBound::Bound(solution_cost(words, memory.tree, node))
-        }
-    }
 }
 
 // What the solution at a node is worth.

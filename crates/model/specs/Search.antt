@@ -47,18 +47,7 @@ withExhausted s x =
       exhausted = x;
     }
 
--- ---- what the methods of a search change: one entry or goal more, a count remembered, a find held, the best
-
-abbrev pub withTree : Search → ℕ → TreeMemory → Search
-withTree s i e =
-    record {
-      trees = set (s .trees) i e;
-      «tree_count» = s .«tree_count»;
-      «goal_keys» = s .«goal_keys»;
-      «goal_count» = s .«goal_count»;
-      «best_solution» = s .«best_solution»;
-      exhausted = s .exhausted;
-    }
+-- ---- what the methods of a search change: one entry or goal more, an entry's turn
 
 abbrev pub entryOf : ℕ → TreeMemory
 entryOf i = record { tree = i; «last_known_closed_len» = Never; solution = Unsolved }
@@ -85,22 +74,16 @@ withGoal s v =
       exhausted = s .exhausted;
     }
 
-abbrev pub withKnown : Search → ℕ → ℕ → Search
-withKnown s i n = withTree s i (record { tree = entry s i .tree; «last_known_closed_len» = Len n; solution = entry s i .solution })
-
-abbrev pub withSolution : Search → ℕ → ℕ → Search
-withSolution s i n =
-    withTree s i (record { tree = entry s i .tree; «last_known_closed_len» = entry s i .«last_known_closed_len»; solution = At n })
-
-abbrev pub withBest : Search → ℕ → ℕ → Search
-withBest s i n =
+-- the turn of entry i: the entry e that it left, the best, and the finished mark
+abbrev pub withTurn : Search → ℕ → TreeMemory → BestSolution → Bool → Search
+withTurn s i e best x =
     record {
-      trees = s .trees;
+      trees = set (s .trees) i e;
       «tree_count» = s .«tree_count»;
       «goal_keys» = s .«goal_keys»;
       «goal_count» = s .«goal_count»;
-      «best_solution» = Best i n;
-      exhausted = s .exhausted;
+      «best_solution» = best;
+      exhausted = x;
     }
 
 -- ---- 1. "If the closed count, counted from the closed words, is not the remembered one, the cheapest closed wanted motif, first in the
@@ -225,14 +208,9 @@ recordedEntry d e u = record { tree = e .tree; «last_known_closed_len» = u .kn
 
 abbrev pub recorded : Domain → CostBound → Search → ℕ → Turn → Search
 recorded d b s i u =
-    record {
-      trees = set (s .trees) i (recordedEntry d (entry s i) u);
-      «tree_count» = s .«tree_count»;
-      «goal_keys» = s .«goal_keys»;
-      «goal_count» = s .«goal_count»;
-      «best_solution» = bestAfter d (u .tree .nodes) b ((entry s i) .solution) (s .«best_solution») i (u .find);
-      exhausted = exhaustedUnless (u .more) (s .exhausted);
-    }
+    let e = entry s i in
+    let ns = u .tree .nodes in
+    withTurn s i (recordedEntry d e u) (bestAfter d ns b (e .solution) (s .«best_solution») i (u .find)) (exhaustedUnless (u .more) (s .exhausted))
 
 -- ---- a step: "for each entry in order"
 

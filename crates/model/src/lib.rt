@@ -2,7 +2,7 @@
 // document 01's number and values, and the promises of the calls use that definition.
 ghost use mathlib.Core.Path.{_≡_};
 ghost use Prim.Native.Nat.{_<_};
-ghost use Rattle.model.specs.Search.{emptySearch, withEntry, withGoal, withKnown, withSolution, withBest, withExhausted};
+ghost use Rattle.model.specs.Search.{emptySearch, withEntry, withGoal, withTurn, withExhausted};
 
 // Returned instead of an answer; specs/Answers.antt numbers them.
 pub enum Refusal {
@@ -105,49 +105,28 @@ impl Search {
         self
     }
 
-    // A tree's closed count remembered.
-    pub fn with_known_len(mut self, entry: usize, len: usize) -> Search
+    // What the turn of an entry came to: the entry with its remembered count and its find, the best, and the finished mark. They are
+    // recorded together, for each method copies the record.
+    pub fn with_turn(
+        self,
+        entry: usize,
+        memory: TreeMemory,
+        best_solution: BestSolution,
+        exhausted: bool,
+    ) -> Search
         requires { ⌜ entry < 64 ⌝ }
-        ensures { λ r. ⌜ r ≡ withKnown self entry len ⌝ }
+        ensures { λ r. ⌜ r ≡ withTurn self entry memory «best_solution» exhausted ⌝ }
     {
-        let memory = self.trees[entry];
-        let solution = memory.solution;
-        self.trees[entry] = TreeMemory {
-            tree: memory.tree,
-            last_known_closed_len: KnownLen::Len(len),
-            solution,
-        };
-        self
-    }
-
-    // A find held by an entry.
-    pub fn with_solution(mut self, entry: usize, node: u32) -> Search
-        requires { ⌜ entry < 64 ⌝ }
-        ensures { λ r. ⌜ r ≡ withSolution self entry node ⌝ }
-    {
-        let memory = self.trees[entry];
-        let last_known_closed_len = memory.last_known_closed_len;
-        self.trees[entry] = TreeMemory {
-            tree: memory.tree,
-            last_known_closed_len,
-            solution: Solution::At(node),
-        };
-        self
-    }
-
-    // A find that is the best.
-    pub fn with_best(self, entry: usize, node: u32) -> Search
-        ensures { λ r. ⌜ r ≡ withBest self entry node ⌝ }
-    {
-        let trees = self.trees;
+        let mut trees = self.trees;
+        trees[entry] = memory;
         let goal_keys = self.goal_keys;
         Search {
             trees,
             tree_count: self.tree_count,
             goal_keys,
             goal_count: self.goal_count,
-            best_solution: BestSolution::Best { entry, node },
-            exhausted: self.exhausted,
+            best_solution,
+            exhausted,
         }
     }
 

@@ -1,4 +1,4 @@
-// Many steps of a search at once, for a controller that owns its words between picks: the Rust's `Search::solve`, with a count.
+// Many steps of a search at once, for a controller that owns its words between picks. The Rust's planner is not followed.
 use layout::wide;
 use model::Refusal;
 use model::Search;
@@ -47,17 +47,18 @@ fn solve_sound(words: &mut [u32], search: Search, steps: usize) -> StepsTaken
     let mut tickets: usize = 0;
     while waits < steps {
         let stepped = checked::step(words, next);
-        next = stepped.search;
         tickets += stepped.tickets;
         let answer = stepped.answer;
+        let search = stepped.search;
         if !is_waiting(answer) {
             return StepsTaken {
                 answer,
                 waits,
                 tickets,
-                search: next,
+                search,
             };
         }
+        next = search;
         waits += 1;
     }
     StepsTaken {

@@ -157,7 +157,7 @@ fn set_best(f: Fields, state: State, k: usize) -> State
     let record = state.records[k];
     if f.count == 3 {
         if entry == HYPHEN {
-            return set(state, k, without_best(record));
+            return set(state, k, with_best(record, BestSolution::NoBest));
         }
     }
     if f.count != 4 {
@@ -169,10 +169,14 @@ fn set_best(f: Fields, state: State, k: usize) -> State
     if MAX_NUMBER < node {
         return state.passed_over();
     }
-    set(state, k, record.with_best(wide(word(entry)), word(node)))
+    let best = BestSolution::Best {
+        entry: wide(word(entry)),
+        node: word(node),
+    };
+    set(state, k, with_best(record, best))
 }
 
-fn without_best(record: Search) -> Search {
+fn with_best(record: Search, best_solution: BestSolution) -> Search {
     let trees = record.trees;
     let goal_keys = record.goal_keys;
     Search {
@@ -180,7 +184,7 @@ fn without_best(record: Search) -> Search {
         tree_count: record.tree_count,
         goal_keys,
         goal_count: record.goal_count,
-        best_solution: BestSolution::NoBest,
+        best_solution,
         exhausted: record.exhausted,
     }
 }

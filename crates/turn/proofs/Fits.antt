@@ -1,4 +1,4 @@
--- A record that fits the trees fits them after a round, and fits later trees.
+-- A record that fits the trees fits them after a round.
 -- Assumes nothing.
 use mathlib.Core.Path.{_∙_}
 use mathlib.Core.List.{List}
@@ -9,8 +9,7 @@ use Rattle.model.specs.declared.Search.{Search}
 use Rattle.model.specs.Graph.{Domain, Accepted}
 use Rattle.model.specs.Tree.{Tree}
 use Rattle.model.specs.Sound.{SoundTrees}
-use Rattle.model.specs.Search.{entry, Walk, round}
-use Rattle.model.proofs.Keeps.{AllLater}
+use Rattle.model.specs.Search.{Walk, round}
 use Rattle.model.proofs.RefinesRead.{Readable}
 use Rattle.model.proofs.RefinesRound.{round-reads}
 use Rattle.memory.specs.Memory.{Fits}
@@ -21,18 +20,6 @@ fits-reads d f = record {
   slots = λ i h. f .held i h .slot;
   held = λ i n h. f .held i h .node n;
   best = f .best;
-}
-
-pub fits-later : {m : ℕ} {ts us : List Tree} {s : Search} → Fits m ts s → AllLater ts us → Fits m us s
-fits-later {s = s} f l = record {
-  listed = f .listed;
-  goals = f .goals;
-  held = λ i h.
-      let slot = f .held i h .slot in
-      record { slot = omega (arith, slot, l .longer); node = λ n e. omega (arith, f .held i h .node n e, l .each (entry s i .tree) slot .longer) };
-  best = λ i n e.
-      let old = f .best i n e in
-      (old .0, omega (arith, old .1, l .each (entry s i .tree) (f .held i (old .0) .slot) .longer));
 }
 
 pub round-fits : (d : Domain) → Accepted (d .graph) → {m : ℕ} (i : ℕ) (w : Walk) → SoundTrees d (w .trees) → i < w .search .«tree_count» → Fits m (w .trees) (w .search)

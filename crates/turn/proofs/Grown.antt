@@ -1,112 +1,67 @@
--- Growing the tree of an entry in the words, and what is recorded of it.
+-- The turn of an entry in the words: a find by lookup leaves them, and growing leaves the model's tree in the slot.
 -- Assumes nothing.
-use mathlib.Core.Path.{_≡_, sym, ap, ap₂, _∙_, subst}
+use mathlib.Core.Path.{_≡_, refl, sym, ap, _∙_, subst}
 use mathlib.Core.Logic.{inl}
+use mathlib.Core.Bool.{false}
 use mathlib.Core.List.{List}
-use Prim.Native.Nat.{ℕ, _<_}
+use Prim.Native.Nat.{ℕ}
 use native.Mathlib.Omega.{arith}
-use lib.ListN.{length, getD, set}
-use lib.Seq.{getD-set-same}
+use lib.ListN.{set}
+use lib.Seq.{set-getD, getD-set-same}
 use Rattle.model.specs.declared.CostBound.{CostBound}
+use Rattle.model.specs.declared.KnownLen.the-variants.{Len}
+use Rattle.model.specs.declared.Solution.{Solution}
 use Rattle.model.specs.declared.Solution.the-variants.{Unsolved, At}
 use Rattle.model.specs.declared.TreeMemory.{TreeMemory}
-use Rattle.model.specs.declared.Search.{Search}
-use Rattle.model.specs.Graph.{Domain}
-use Rattle.model.specs.Tree.{Tree, Node, Growth}
+use Rattle.model.specs.Tree.{Tree, least}
 use Rattle.model.specs.Sound.{noTree, tree}
-use Rattle.model.specs.Search.{entry, goals}
-use Rattle.model.specs.Calls.{Cache}
-use Rattle.model.proofs.Later as later
-use Rattle.model.proofs.Keeps.{AllLater, set-keeps}
+use Rattle.model.specs.Search.{closedCount, under, Turn, grown}
+use Rattle.model.specs.Calls.{Cache, withTrees}
 use Rattle.layout.specs.Read.{readCache}
-use Rattle.sound.proofs.Facts.{sound-accepted, sound-cache}
-use Rattle.grow.specs.declared.Growth.{Growth as Grown}
-use Rattle.grow.specs.Grow.{growthOf, Grew}
-use Rattle.memory.specs.Memory.{Holds}
-use Rattle.turn.specs.Turn.{CanTurn, treeAt, rememberedIn, foundIn, Grows, CanRecord}
-use Rattle.turn.proofs.Entries.{entry-sound, wanted, goals-lent}
-use Rattle.turn.proofs.Turning.{growth-node}
-use Rattle.turn.proofs.Fits.{fits-later}
-use Rattle.turn.proofs.Recorded.{counted, remembered-entry, grown-none, grown-found}
+use Rattle.sound.proofs.Facts.{trees-length}
+use Rattle.grow.specs.declared.Growth.{Growth}
+use Rattle.grow.specs.Grow.{InUse, growthOf, Grew}
+use Rattle.turn.specs.declared.Outcome.{Outcome}
+use Rattle.turn.specs.Turn.{treeAt, CanTurn, turnOf, Turns, LooksUp, Remembers}
+use Rattle.turn.proofs.Turning.{turn-found, turn-grown}
 
-module _ {ws : List ℕ} {s : Search} {i : ℕ} (can : CanTurn ws s i) (b : CostBound) {g : Grown} {left : List ℕ} (lent : Grew ws (entry s i .tree) (wanted can) b g left) where
-  abbrev slot : ℕ
-  slot = entry s i .tree
+-- the tree in a slot that words hold another tree in
+pub tree-left : {ws : List ℕ} (left : List ℕ) {i : ℕ} → InUse ws i → (t : Tree) → readCache left ≡ withTrees (readCache ws) (set (readCache ws .trees) i t) → treeAt left i ≡ t
+tree-left {ws} left {i} u t e = ap (λ (c : Cache). tree (c .trees) i) e ∙ getD-set-same (readCache ws .trees) i t noTree (omega (arith, trees-length ws, u .slot))
 
-  abbrev d : Domain
-  d = readCache ws .domain
+module _ {ws : List ℕ} {i : ℕ} {gs : List ℕ} (u : InUse ws i) {b : CostBound} {g : Growth} {left : List ℕ} (grew : Grew ws i gs b g left) where
+  pub can-remember : InUse left i
+  can-remember = record { sound = grew .sound; slot = omega (arith, u .slot, grew .outside .word 4 (inl (omega arith))) }
 
-  abbrev ts : List Tree
-  ts = readCache ws .trees
-
-  abbrev growth : Growth
-  growth = growthOf ws slot (goals s) b
-
-  grew : Grew ws slot (goals s) b g left
-  grew = subst (λ (gs : List ℕ). Grew ws slot gs b g left) (goals-lent can) lent
-
-  in-use : slot < length ts
-  in-use = can .fits .held i (can .is-entry) .slot
-
-  all-later : AllLater ts (set ts slot (growth .tree))
-  all-later =
-      let r = later.grown d (sound-accepted ws (can .sound)) (goals s) b (treeAt ws s i) (entry-sound can) 10 in
-      set-keeps d ts (sound-cache ws (can .sound) .trees) slot (growth .tree) in-use (r .sound) (r .later) .1
-
-  trees-left : readCache left .trees ≡ set ts slot (growth .tree)
-  trees-left = ap (λ (c : Cache). c .trees) (grew .cache)
-
-  tree-left : treeAt left s i ≡ growth .tree
-  tree-left = ap (λ (l : List Tree). tree l slot) trees-left ∙ getD-set-same ts slot (growth .tree) noTree in-use
-
-  pub can-remember : CanTurn left s i
-  can-remember =
-      let vertices : getD left 1 0 ≡ getD ws 1 0 = grew .outside .word 1 (inl (omega arith)) in
-      record { sound = grew .sound; fits = rw (vertices, trees-left) (fits-later (can .fits) all-later); is-entry = can .is-entry }
-
-  module _ {next : Search} (e : next ≡ rememberedIn (treeAt left s i) b s i) where
-    next-is : next ≡ rememberedIn (growth .tree) b s i
-    next-is = e ∙ ap (λ (t : Tree). rememberedIn t b s i) tree-left
-
-    pub grows-unsolved : g .solution ≡ Unsolved → Grows ws s i b (record { search = next; tickets = g .tickets }) left
-    grows-unsolved z = record {
-      search = next-is ∙ sym (grown-none d b s i growth (sym (grew .solution) ∙ z));
-      tickets = grew .tickets;
-      cache = grew .cache;
-      sound = grew .sound;
-      outside = grew .outside;
-    }
-
-    -- ---- a find, at node n
-
-    few : i < length (s .trees)
-    few = omega (arith, can .is-entry, can .fits .listed .entries, can .fits .listed .trees)
-
-    entry-next : entry next i ≡ counted (growth .tree) s i
-    entry-next = ap (λ (x : Search). entry x i) next-is ∙ remembered-entry (growth .tree) b s i few
-
-    tree-next : treeAt left next i ≡ growth .tree
-    tree-next = ap (λ (x : TreeMemory). tree (readCache left .trees) (x .tree)) entry-next ∙ tree-left
-
-    module _ {n : ℕ} (z : g .solution ≡ At n) where
-      pub can-record : CanRecord left next i n
-      can-record =
-          let held = can-remember .fits .held i (can .is-entry) in
-          record {
-            sound = grew .sound;
-            is-entry = omega (arith, can .is-entry, can .fits .listed .entries);
-            holds = subst (Holds (readCache left .trees)) (sym entry-next) (record { slot = held .slot; node = held .node });
-            node = rw tree-next (growth-node d (goals s) b (treeAt ws s i) (sound-accepted ws (can .sound)) (entry-sound can) n (sym (grew .solution) ∙ z));
-          }
-
-      pub grows-found : {r : Search} → r ≡ foundIn (treeAt left next i .nodes) b next i n → Grows ws s i b (record { search = r; tickets = g .tickets }) left
-      grows-found p = record {
-        search =
-            p
-            ∙ ap₂ (λ (ns : List Node) (x : Search). foundIn ns b x i n) (ap (λ (t : Tree). t .nodes) tree-next) next-is
-            ∙ sym (grown-found d b s i growth n (sym (grew .solution) ∙ z) few);
-        tickets = grew .tickets;
+  pub grown-turns : {r : Outcome} → Remembers (treeAt left i) g b r → Turns ws i (grown (growthOf ws i gs b) b) r left
+  unfolding grown
+  grown-turns m =
+      let same = tree-left left u (growthOf ws i gs b .tree) (grew .cache) in
+      record {
+        known = m .known ∙ ap (λ (t : Tree). Len (closedCount (t .closed))) same;
+        find = m .find ∙ grew .solution;
+        more = m .more ∙ ap (λ (t : Tree). under (t .nodes) (least (t .nodes) (t .waiting)) b) same;
+        tickets = m .tickets ∙ grew .tickets;
         cache = grew .cache;
         sound = grew .sound;
         outside = grew .outside;
       }
+
+module _ {ws : List ℕ} (e : TreeMemory) {gs : List ℕ} (can : CanTurn ws (e .tree) gs) (b : CostBound) {o : Solution} (l : LooksUp ws (e .tree) gs (e .«last_known_closed_len») o) where
+  pub turns-grown : {r : Outcome} {left : List ℕ} → o ≡ Unsolved → Turns ws (e .tree) (grown (growthOf ws (e .tree) gs b) b) r left → Turns ws (e .tree) (turnOf ws e gs b) r left
+  turns-grown {r} {left} z t =
+      subst (λ (u : Turn). Turns ws (e .tree) u r left) (sym (turn-grown (readCache ws .domain) gs b (treeAt ws (e .tree)) (e .«last_known_closed_len») (sym l ∙ z))) t
+
+  pub turns-found : {n : ℕ} → o ≡ At n → Turns ws (e .tree) (turnOf ws e gs b) (record { known = e .«last_known_closed_len»; find = o; more = false; tickets = 0 }) ws
+  turns-found {n} z =
+      subst (λ (u : Turn). Turns ws (e .tree) u (record { known = e .«last_known_closed_len»; find = o; more = false; tickets = 0 }) ws)
+      (sym (turn-found (readCache ws .domain) gs b (treeAt ws (e .tree)) (e .«last_known_closed_len») n (sym l ∙ z)))
+      (record {
+        known = refl;
+        find = z;
+        more = refl;
+        tickets = refl;
+        cache = sym (ap (withTrees (readCache ws)) (set-getD (readCache ws .trees) (e .tree) noTree));
+        sound = can .used .sound;
+        outside = record { len = refl; word = λ j h. refl };
+      })

@@ -2,8 +2,7 @@
 pub mod First
 pub mod LookedUp
 pub mod Entries
-pub mod Found
-pub mod Recorded
+pub mod Held
 pub mod Turning
 pub mod Fits
 pub mod Grown

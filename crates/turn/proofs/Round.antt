@@ -1,34 +1,63 @@
--- The turn of an entry in the words is the model's round.
+-- The turn of entry i in the words is the model's round: what the functions of a turn ask for, and what is known after it.
 -- Assumes nothing.
-use mathlib.Core.Path.{_≡_, refl, sym, ap, _∙_, subst}
+use mathlib.Core.Path.{_≡_, refl, sym, ap, ap₂, _∙_, subst}
 use mathlib.Core.Logic.{inl}
+use mathlib.Core.Bool.{Bool}
 use mathlib.Core.List.{List}
-use Prim.Native.Nat.{ℕ, _≤_}
+use Prim.Native.Nat.{ℕ, _<_, _≤_}
 use native.Mathlib.Omega.{arith}
-use lib.ListN.{getD, set}
-use lib.Seq.{set-getD}
+use lib.ListN.{length, getD}
+use lib.Seq.{getD-take, length-take-le}
 use Rattle.model.specs.declared.CostBound.{CostBound}
 use Rattle.model.specs.declared.KnownLen.{KnownLen}
 use Rattle.model.specs.declared.Solution.{Solution}
-use Rattle.model.specs.declared.Solution.the-variants.{Unsolved, At}
+use Rattle.model.specs.declared.BestSolution.{BestSolution}
+use Rattle.model.specs.declared.BestSolution.the-variants.{NoBest, Best}
 use Rattle.model.specs.declared.Search.{Search}
-use Rattle.model.specs.Graph.{Domain}
-use Rattle.model.specs.Tree.{Tree, on}
-use Rattle.model.specs.Sound.{noTree}
-use Rattle.model.specs.Search.{entry, goals, bound, Turn, grown, turn, recorded, round}
+use Rattle.model.specs.Graph.{Domain, Accepted}
+use Rattle.model.specs.Tree.{Tree, Node}
+use Rattle.model.specs.Sound.{Sound, tree}
+use Rattle.model.specs.Search.{entry, goals, boundOf, bound, hold, bestAfter, exhaustedUnless, withTurn, Turn, turn, recorded, Walk, round}
 use Rattle.model.specs.Calls.{Cache, withTrees}
+use Rattle.model.proofs.Keeps.{turn-keeps}
+use Rattle.model.proofs.RefinesRead.{find-in}
 use Rattle.layout.specs.Read.{readCache}
 use Rattle.sound.specs.Facts.{SoundWords}
 use Rattle.sound.proofs.Facts.{sound-accepted, sound-cache}
-use Rattle.grow.specs.Grow.{Outside}
-use Rattle.memory.specs.Memory.{Fits, FitsWords}
-use Rattle.turn.specs.declared.Turned.{Turned}
-use Rattle.turn.specs.Turn.{CanTurn, roundOf, Turns, treeAt, LooksUp, Grows, CanRecord, foundIn}
-use Rattle.turn.proofs.Turning.{turn-found, turn-grown, grow-few}
+use Rattle.grow.specs.Grow.{InUse, Outside}
+use Rattle.memory.specs.Memory.{Fits, FitsWords, HasNode}
+use Rattle.memory.proofs.Fits.{in-use, best-few, best-node}
+use Rattle.turn.specs.declared.Outcome.{Outcome}
+use Rattle.turn.specs.declared.Found.{Found}
+use Rattle.turn.specs.Turn.{treeAt, bestEntry, CanBound, boundIn, CanTurn, turnOf, Turns, CanRecord, foundOf}
+use Rattle.turn.proofs.Turning.{turn-few}
 use Rattle.turn.proofs.Fits.{round-fits}
-use Rattle.turn.proofs.Recorded.{found-recorded}
+use Rattle.turn.proofs.Grown.{tree-left}
 
-module _ {ws : List ℕ} {s : Search} {i : ℕ} (can : CanTurn ws s i) where
+-- i is an entry of a record that fits the words
+pub record HasEntry (ws : List ℕ) (s : Search) (i : ℕ) : Type 0 where
+  pub sound : SoundWords ws
+  pub fits : FitsWords ws s
+  pub is-entry : i < s .«tree_count»
+
+abbrev pub roundOf : List ℕ → Search → ℕ → Walk
+roundOf ws s i = let c = readCache ws in round (c .domain) i (record { trees = c .trees; search = s; tickets = 0 })
+
+-- the record next and k tickets after the turn of entry i, and the words left
+pub record Rounds (ws : List ℕ) (s : Search) (i : ℕ) (next : Search) (k : ℕ) (left : List ℕ) : Type 0 where
+  pub search : next ≡ roundOf ws s i .search
+  pub tickets : k ≡ roundOf ws s i .tickets
+  pub few : k ≤ 10
+  pub cache : readCache left ≡ withTrees (readCache ws) (roundOf ws s i .trees)
+  pub sound : SoundWords left
+  pub fits : FitsWords left next
+  pub outside : Outside (getD ws 1 0) (getD ws 2 0) (entry s i .tree) ws left
+
+bound-in : (d : Domain) (ts : List Tree) (s : Search) (x : BestSolution) → boundIn (tree ts (entry s (bestEntry x) .tree) .nodes) x ≡ boundOf d ts s x
+bound-in d ts s NoBest = refl
+bound-in d ts s (Best i n) = refl
+
+module _ {ws : List ℕ} {s : Search} {i : ℕ} (has : HasEntry ws s i) where
   abbrev slot : ℕ
   slot = entry s i .tree
 
@@ -41,70 +70,123 @@ module _ {ws : List ℕ} {s : Search} {i : ℕ} (can : CanTurn ws s i) where
   abbrev most : CostBound
   most = bound d ts s
 
-  abbrev known : KnownLen
-  known = entry s i .«last_known_closed_len»
+  used : InUse ws slot
+  used = in-use (has .sound) (has .fits .held i (has .is-entry) .slot)
 
-  abbrev made : Turn
-  made = turn d (goals s) most (treeAt ws s i) known
+  pub entry-few : i < 64
+  entry-few = omega (arith, has .is-entry, has .fits .listed .entries)
 
-  -- ---- the turn u is the model's, and the words hold what it leaves
+  -- ---- the bound
 
-  module _ {u : Turn} {r : Turned} {left : List ℕ} (e : made ≡ u) (search : r .search ≡ recorded d most s i u) (tickets : r .tickets ≡ u .tickets) (few : u .tickets ≤ 10)
-      (cache : readCache left ≡ withTrees (readCache ws) (set ts slot (u .tree))) (sound : SoundWords left) (outside : Outside (getD ws 1 0) (getD ws 2 0) slot ws left) where
-    search-is : r .search ≡ roundOf ws s i .search
-    unfolding round
-    search-is = search ∙ ap (recorded d most s i) (sym e)
+  pub best-place : {j : ℕ} → j ≡ bestEntry (s .«best_solution») → j < 64
+  best-place {j} e = go (s .«best_solution») refl e
+    where
+      go : (x : BestSolution) → s .«best_solution» ≡ x → j ≡ bestEntry x → j < 64
+      go NoBest z h = omega arith
+      go (Best k n) z h = omega (arith, best-few (has .sound) (has .fits) z)
 
-    cache-is : readCache left ≡ withTrees (readCache ws) (roundOf ws s i .trees)
-    unfolding round
-    cache-is = cache ∙ ap (λ (x : Turn). withTrees (readCache ws) (set ts slot (x .tree))) (sym e)
+  module _ {j : ℕ} (e : j ≡ bestEntry (s .«best_solution»)) where
+    pub can-bound : CanBound ws (s .«best_solution») (entry s j .tree)
+    can-bound k n z = subst (λ (m : ℕ). HasNode ws (entry s m .tree) n) (sym (e ∙ ap bestEntry z)) (best-node (has .sound) (has .fits) z)
 
-    fits-left : FitsWords left (r .search)
-    fits-left =
-        let fit = round-fits d (sound-accepted ws (can .sound)) i (record { trees = ts; search = s; tickets = 0 }) (sound-cache ws (can .sound) .trees) (can .is-entry) (can .fits) in
-        let vertices : getD left 1 0 ≡ getD ws 1 0 = outside .word 1 (inl (omega arith)) in
-        subst (λ (m : ℕ). Fits m (readCache left .trees) (r .search)) (sym vertices)
-        (subst (λ (l : List Tree). Fits (getD ws 1 0) l (r .search)) (sym (ap (λ (c : Cache). c .trees) cache-is))
-        (subst (λ (x : Search). Fits (getD ws 1 0) (roundOf ws s i .trees) x) (sym search-is) fit))
+    pub bound-is : {b : CostBound} → b ≡ boundIn (treeAt ws (entry s j .tree) .nodes) (s .«best_solution») → b ≡ most
+    bound-is h =
+        h
+        ∙ ap (λ (m : ℕ). boundIn (treeAt ws (entry s m .tree) .nodes) (s .«best_solution»)) e
+        ∙ bound-in d ts s (s .«best_solution»)
 
-    turns : Turns ws s i r left
-    unfolding round
-    turns = record {
-      search = search-is;
-      tickets = let same : made .tickets ≡ u .tickets = ap (λ (x : Turn). x .tickets) e in omega (arith, tickets, same);
-      few = omega (arith, tickets, few);
-      cache = cache-is;
-      sound = sound;
-      fits = fits-left;
-      outside = outside;
-    }
+  -- ---- the turn, with the goals gs that were lent
 
-  -- ---- o: what was looked up
+  module _ {gs : List ℕ} (e : gs ≡ goals s) where
+    pub can-turn : CanTurn ws slot gs
+    can-turn = record { used = used; goals = below }
+      where
+        below : (j : ℕ) → j < length gs → getD gs j 0 < getD ws 1 0
+        below j h =
+            let long : length (goals s) ≡ s .«goal_count» = length-take-le (s .«goal_count») (s .«goal_keys») (omega (arith, has .fits .listed .keys, has .fits .listed .goals)) in
+            let few : j < s .«goal_count» = omega (arith, ap length e, long) in
+            omega (arith, ap (λ (l : List ℕ). getD l j 0) e, getD-take (s .«goal_count») (s .«goal_keys») j 0 few, has .fits .goals j few)
 
-  module _ {b : CostBound} {o : Solution} (e : b ≡ most) (l : LooksUp ws s i o) where
-    pub turns-grown : {r : Turned} {left : List ℕ} → o ≡ Unsolved → Grows ws s i b r left → Turns ws s i r left
-    unfolding grown
-    turns-grown {r} {left} z h =
-        let g : Grows ws s i most r left = subst (λ (x : CostBound). Grows ws s i x r left) e h in
-        let few = grow-few d (goals s) most 10 (record { tree = treeAt ws s i; tickets = 0; going = on }) in
-        turns (turn-grown d (goals s) most (treeAt ws s i) known (sym (l .find) ∙ z)) (g .search) (g .tickets) few (g .cache) (g .sound) (g .outside)
+    module _ {b : CostBound} {r : Outcome} {left : List ℕ} (most-is : b ≡ most) (lent : Turns ws slot (turnOf ws (entry s i) gs b) r left) where
+      abbrev u : Turn
+      u = turn d (goals s) most (treeAt ws slot) (entry s i .«last_known_closed_len»)
 
-    module _ {n : ℕ} (z : o ≡ At n) where
-      pub can-record-find : CanRecord ws s i n
-      can-record-find = record {
-        sound = can .sound;
-        is-entry = omega (arith, can .is-entry, can .fits .listed .entries);
-        holds = can .fits .held i (can .is-entry);
-        node = l .node n z;
+      turns : Turns ws slot u r left
+      turns =
+          subst (λ (x : CostBound). Turns ws slot (turnOf ws (entry s i) (goals s) x) r left) most-is
+          (subst (λ (l : List ℕ). Turns ws slot (turnOf ws (entry s i) l b) r left) e lent)
+
+      acc : Accepted (d .graph)
+      acc = sound-accepted ws (has .sound)
+
+      sound-tree : Sound d (treeAt ws slot)
+      sound-tree = sound-cache ws (has .sound) .trees .each slot (has .fits .held i (has .is-entry) .slot)
+
+      left-tree : treeAt left slot ≡ u .tree
+      left-tree = tree-left left used (u .tree) (turns .cache)
+
+      trees-left : readCache left .trees ≡ roundOf ws s i .trees
+      unfolding round
+      trees-left = ap (λ (c : Cache). c .trees) (turns .cache)
+
+      vertices-left : getD left 1 0 ≡ getD ws 1 0
+      vertices-left = turns .outside .word 1 (inl (omega arith))
+
+      fit : Fits (getD ws 1 0) (roundOf ws s i .trees) (roundOf ws s i .search)
+      fit = round-fits d acc i (record { trees = ts; search = s; tickets = 0 }) (sound-cache ws (has .sound) .trees) (has .is-entry) (has .fits)
+
+      -- what the entry held stays, and the find is a node of the tree left
+      pub can-record : CanRecord left (entry s i) (r .find)
+      can-record =
+          let more = turn-keeps d acc (goals s) most (treeAt ws slot) (entry s i .«last_known_closed_len») sound-tree .1 .longer in
+          record {
+            used = record { sound = turns .sound; slot = omega (arith, used .slot, turns .outside .word 4 (inl (omega arith))) };
+            held = λ n z. rw left-tree (omega (arith, more, has .fits .held i (has .is-entry) .node n z));
+            find = λ n z. rw left-tree (find-in d acc (goals s) most (treeAt ws slot) (entry s i .«last_known_closed_len») sound-tree n (sym (turns .find) ∙ z));
+          }
+
+      pub few-tickets : r .tickets ≤ 10
+      few-tickets = omega (arith, turns .tickets, turn-few d (goals s) most (treeAt ws slot) (entry s i .«last_known_closed_len»))
+
+      -- ---- what is recorded
+
+      pub rounds : {f : Found} {x : Bool} {next : Search} → f ≡ foundOf left (entry s i) (r .find) b (s .«best_solution») i → x ≡ exhaustedUnless (r .more) (s .exhausted)
+          → next ≡ withTurn s i (record { tree = slot; «last_known_closed_len» = r .known; solution = f .solution }) (f .best) x → Rounds ws s i next (r .tickets) left
+      unfolding round
+      rounds {f} {x} {next} found mark h = record {
+        search = search-is;
+        tickets = omega (arith, turns .tickets);
+        few = few-tickets;
+        cache = turns .cache;
+        sound = turns .sound;
+        fits =
+            subst (λ (m : ℕ). Fits m (readCache left .trees) next) (sym vertices-left)
+            (subst (λ (l : List Tree). Fits (getD ws 1 0) l next) (sym trees-left) (subst (λ (y : Search). Fits (getD ws 1 0) (roundOf ws s i .trees) y) (sym search-is) fit));
+        outside = turns .outside;
       }
+        where
+          held : Solution
+          held = entry s i .solution
 
-      pub turns-found : {r : Search} → r ≡ foundIn (treeAt ws s i .nodes) b s i n → Turns ws s i (record { search = r; tickets = 0 }) ws
-      turns-found {r} p =
-          let same : set ts slot (treeAt ws s i) ≡ ts = set-getD ts slot noTree in
-          turns {r = record { search = r; tickets = 0 }} (turn-found d (goals s) most (treeAt ws s i) known n (sym (l .find) ∙ z))
-          (p ∙ ap (λ (x : CostBound). foundIn (treeAt ws s i .nodes) x s i n) e ∙ sym (found-recorded d most s i (treeAt ws s i) n))
-          refl
-          (omega arith)
-          (sym (ap (withTrees (readCache ws)) same))
-          (can .sound)
-          (record { len = refl; word = λ j h. refl })
+          best : BestSolution
+          best = s .«best_solution»
+
+          -- what was found is what the model's turn gives
+          founds : Domain → List Node → CostBound → Solution → Found
+          founds c ns m o = record { solution = hold c ns held o; best = bestAfter c ns m held best i o }
+
+          found-is : f ≡ founds d (u .tree .nodes) most (u .find)
+          found-is =
+              found
+              ∙ ap (λ (c : Cache). founds (c .domain) (treeAt left slot .nodes) b (r .find)) (turns .cache)
+              ∙ ap (λ (t : Tree). founds d (t .nodes) b (r .find)) left-tree
+              ∙ ap₂ (founds d (u .tree .nodes)) most-is (turns .find)
+
+          nexts : KnownLen → Found → Bool → Search
+          nexts known y = withTurn s i (record { tree = slot; «last_known_closed_len» = known; solution = y .solution }) (y .best)
+
+          search-is : next ≡ roundOf ws s i .search
+          search-is =
+              h
+              ∙ ap₂ (λ (known : KnownLen) (y : Found). nexts known y x) (turns .known) found-is
+              ∙ ap (nexts (u .known) (founds d (u .tree .nodes) most (u .find))) (mark ∙ ap (λ (m : Bool). exhaustedUnless m (s .exhausted)) (turns .more))

@@ -1,24 +1,20 @@
--- The model's turn in its two cases: the find is a node of the tree that is left, and growing takes at most ten tickets. So do rounds, each.
+-- The model's turn in its two cases. It takes at most ten tickets; so do rounds, each.
 -- Assumes nothing.
-use mathlib.Core.Path.{_≡_, refl, ap, _∙_, subst}
+use mathlib.Core.Path.{_≡_, ap}
 use mathlib.Core.Bool.{Bool, true, false, not}
 use mathlib.Core.Option.{Option, none, some}
 use mathlib.Core.List.{List}
-use Prim.Native.Nat.{ℕ, zero, suc, _+_, _*_, _<_, _≤_}
+use Prim.Native.Nat.{ℕ, zero, suc, _+_, _*_, _≤_}
 use native.Mathlib.Omega.{arith}
-use borrow.Author.Tests.{eq-eqb}
 use lib.Dec.{eqb}
-use lib.ListN.{length}
 use Rattle.model.specs.declared.CostBound.{CostBound}
 use Rattle.model.specs.declared.KnownLen.{KnownLen}
-use Rattle.model.specs.declared.KnownLen.the-variants.{Len}
 use Rattle.model.specs.declared.Solution.{Solution}
 use Rattle.model.specs.declared.Solution.the-variants.{Unsolved, At}
-use Rattle.model.specs.Graph.{Domain, Accepted}
+use Rattle.model.specs.Graph.{Domain}
 use Rattle.model.specs.Tree.{Tree, node, closedAt, least, Going, on, found, over, Growth, taken, ticketOf, ticket, grow}
-use Rattle.model.specs.Sound.{Sound, tree}
-use Rattle.model.specs.Search.{entry, goals, closedCount, lookupIf, lookup, Turn, findOf, grown, turnBy, turn, bound, Walk, round, rounds}
-use Rattle.model.proofs.RefinesRead.{find-in}
+use Rattle.model.specs.Sound.{tree}
+use Rattle.model.specs.Search.{entry, goals, lookup, grown, turnBy, turn, bound, Walk, round, rounds}
 
 module _ (d : Domain) (gs : List ℕ) (b : CostBound) (t : Tree) where
   abbrev pub growth : Growth
@@ -31,24 +27,6 @@ module _ (d : Domain) (gs : List ℕ) (b : CostBound) (t : Tree) where
   pub turn-grown : (known : KnownLen) → lookup d t gs known ≡ Unsolved → turn d gs b t known ≡ grown growth b
   unfolding turn
   turn-grown known e = ap (turnBy d gs b t known) e
-
-  -- with the closed count remembered there is no lookup
-  known-unsolved : lookup d t gs (Len (closedCount (t .closed))) ≡ Unsolved
-  unfolding lookup
-  known-unsolved = ap (λ (q : Bool). lookupIf q d (t .nodes) (t .closed) gs) (eq-eqb (closedCount (t .closed)) (closedCount (t .closed)) refl)
-
-  module _ (acc : Accepted (d .graph)) (ok : Sound d t) (n : ℕ) where
-    pub lookup-node : (known : KnownLen) → lookup d t gs known ≡ At n → n < length (t .nodes)
-    lookup-node known e =
-        let u = turn-found known n e in
-        subst (λ (x : Turn). n < length (x .tree .nodes)) u (find-in d acc gs b t known ok n (ap (λ (x : Turn). x .find) u))
-
-    pub growth-node : findOf (growth .going) ≡ At n → n < length (growth .tree .nodes)
-    unfolding grown
-    growth-node e =
-        let known : KnownLen = Len (closedCount (t .closed)) in
-        let u = turn-grown known known-unsolved in
-        subst (λ (x : Turn). n < length (x .tree .nodes)) u (find-in d acc gs b t known ok n (ap (λ (x : Turn). x .find) u ∙ e))
 
 -- ---- tickets
 
@@ -80,13 +58,16 @@ unfolding turnBy grown
 turnBy-few d gs b t known Unsolved = omega (arith, grow-few d gs b 10 (record { tree = t; tickets = 0; going = on }))
 turnBy-few d gs b t known (At n) = omega arith
 
+pub turn-few : (d : Domain) (gs : List ℕ) (b : CostBound) (t : Tree) (known : KnownLen) → turn d gs b t known .tickets ≤ 10
+unfolding turn
+turn-few d gs b t known = turnBy-few d gs b t known (lookup d t gs known)
+
 round-few : (d : Domain) (i : ℕ) (w : Walk) → round d i w .tickets ≤ 10 + w .tickets
-unfolding round turn
+unfolding round
 round-few d i w =
     let s = w .search in
     let e = entry s i in
-    let t = tree (w .trees) (e .tree) in
-    omega (arith, turnBy-few d (goals s) (bound d (w .trees) s) t (e .«last_known_closed_len») (lookup d t (goals s) (e .«last_known_closed_len»)))
+    omega (arith, turn-few d (goals s) (bound d (w .trees) s) (tree (w .trees) (e .tree)) (e .«last_known_closed_len»))
 
 pub rounds-few : (d : Domain) (k i : ℕ) (w : Walk) → rounds d k i w .tickets ≤ 10 * k + w .tickets
 unfolding rounds

@@ -4,11 +4,11 @@ use mathlib.Core.Path.{_≡_, refl, sym, ap, ap₂, _∙_, subst}
 use mathlib.Core.Logic.{_⊎_, inl, inr}
 use mathlib.Core.Bool.{true}
 use mathlib.Core.List.{List}
-use Prim.Native.Nat.{ℕ, zero, suc, _+_, _*_, _<_, _≤_}
+use Prim.Native.Nat.{ℕ, zero, suc, _+_, _-_, _*_, _<_, _≤_}
 use native.Mathlib.Omega.{arith}
 use native.Mathlib.Decide.{decLt}
 use native.Mathlib.Numerals.{add-one}
-use lib.ListN.{getD}
+use lib.ListN.{getD, take}
 use Rattle.model.specs.declared.Search.{Search}
 use Rattle.model.specs.Graph.{Domain}
 use Rattle.model.specs.Sound.{tree}
@@ -20,8 +20,8 @@ use Rattle.layout.specs.Read.{readCache}
 use Rattle.sound.specs.Facts.{SoundWords}
 use Rattle.grow.specs.Grow.{Outside}
 use Rattle.memory.specs.Memory.{FitsWords}
-use Rattle.turn.specs.declared.Turned.{Turned}
-use Rattle.turn.specs.Turn.{CanStep, Steps, Apart, InSlot, CanTurn, roundOf, Turns}
+use Rattle.turn.specs.Turn.{CanStep, Steps, Apart, InSlot}
+use Rattle.turn.proofs.Round.{HasEntry, roundOf, Rounds}
 
 -- ---- the model's rounds
 
@@ -84,6 +84,7 @@ pub record Walked (ws : List ℕ) (s : Search) (words : List ℕ) (next : Search
   pub few : k ≤ 10 * i
   pub count : next .«tree_count» ≡ s .«tree_count»
   pub slots : (j : ℕ) → entry next j .tree ≡ entry s j .tree
+  pub goals-stay : goals next ≡ goals s
 
 pub walked-none : {ws : List ℕ} {s next : Search} → CanStep ws s → next ≡ withExhausted s true → Walked ws s ws next 0 0
 unfolding rounds
@@ -105,6 +106,7 @@ walked-none {ws} {s} {next} can e =
       few = omega arith;
       count = refl;
       slots = λ j. refl;
+      goals-stay = refl;
     })
   where
     f : FitsWords ws s
@@ -124,8 +126,12 @@ module _ {ws : List ℕ} {s : Search} {words : List ℕ} {next : Search} {k i : 
       }
 
   module _ (h : i < s .«tree_count») where
-    pub can-turn : CanTurn words next i
-    can-turn = record { sound = w .sound; fits = w .fits; is-entry = omega (arith, w .count) }
+    pub has-entry : HasEntry words next i
+    has-entry = record { sound = w .sound; fits = w .fits; is-entry = omega (arith, w .count) }
+
+    -- the part of the goals that is lent
+    pub goals-lent : take (s .«goal_count» - 0) (s .«goal_keys») ≡ goals next
+    goals-lent = let all : s .«goal_count» - 0 ≡ s .«goal_count» = omega arith in ap (λ (n : ℕ). take n (s .«goal_keys»)) all ∙ sym (w .goals-stay)
 
     pub walked-few : k ≤ 640
     walked-few = omega (arith, w .few, w .can .fits .listed .entries)
@@ -134,7 +140,7 @@ module _ {ws : List ℕ} {s : Search} {words : List ℕ} {next : Search} {k i : 
     walked-index = omega (arith, w .can .fits .listed .entries)
 
     -- the turn of entry i
-    module _ {r : Turned} {left : List ℕ} (t : Turns words next i r left) where
+    module _ {after : Search} {n : ℕ} {left : List ℕ} (t : Rounds words next i after n left) where
       header : (j : ℕ) → j < 5 → getD words j 0 ≡ getD ws j 0
       header j b = w .apart .word j (λ x. omega (arith, x .from))
 
@@ -160,7 +166,7 @@ module _ {ws : List ℕ} {s : Search} {words : List ℕ} {next : Search} {k i : 
       round-is : roundOf words next i ≡ round (readCache ws .domain) i (afresh (walked ws s i))
       round-is = ap₂ (λ (c : Cache) (x : Search). round (c .domain) i (record { trees = c .trees; search = x; tickets = 0 })) (w .cache) (w .search)
 
-      pub walked-next : Walked ws s left (r .search) (k + r .tickets) (i + 1)
+      pub walked-next : Walked ws s left after (k + n) (i + 1)
       unfolding round
       walked-next =
           let d = readCache ws .domain in
@@ -183,4 +189,5 @@ module _ {ws : List ℕ} {s : Search} {words : List ℕ} {next : Search} {k i : 
             few = omega (arith, w .few, t .few);
             count = ap (λ (x : Search). x .«tree_count») (t .search) ∙ round-count (readCache words .domain) i from ∙ w .count;
             slots = λ j. ap (λ (x : Search). entry x j .tree) (t .search) ∙ slots-kept (readCache words .domain) i from j ∙ w .slots j;
+            goals-stay = ap goals (t .search) ∙ w .goals-stay;
           }

@@ -1,28 +1,36 @@
 -- The turns of a search's entries in the words of a cache: what the code promises.
 -- Assumes nothing.
 use mathlib.Core.Path.{_≡_}
-use mathlib.Core.Bool.{Bool, true, false}
+use mathlib.Core.Bool.{Bool, false}
 use mathlib.Core.List.{List}
 use Prim.Native.Nat.{ℕ, _+_, _<_, _≤_}
 use lib.Dec.{ltb}
 use lib.ListN.{length, getD, set}
 use Rattle.model.specs.declared.CostBound.{CostBound}
+use Rattle.model.specs.declared.CostBound.the-variants.{Unbounded, Bound}
 use Rattle.model.specs.declared.KnownLen.{KnownLen}
+use Rattle.model.specs.declared.KnownLen.the-variants.{Len}
 use Rattle.model.specs.declared.Solution.{Solution}
 use Rattle.model.specs.declared.Solution.the-variants.{Unsolved, At}
+use Rattle.model.specs.declared.BestSolution.{BestSolution}
+use Rattle.model.specs.declared.BestSolution.the-variants.{NoBest, Best}
+use Rattle.model.specs.declared.TreeMemory.{TreeMemory}
 use Rattle.model.specs.declared.Search.{Search}
 use Rattle.model.specs.Graph.{Domain}
 use Rattle.model.specs.Tree.{Tree, Node, evaluation, least}
 use Rattle.model.specs.Sound.{tree}
-use Rattle.model.specs.Search.{entry, goals, closedCount, lookup, under, cheaper, exhaustedUnless, withKnown, withSolution, withBest, withExhausted, grown, recorded, Walk, round, walk}
+use Rattle.model.specs.Search.{entry, closedCount, lookup, under, hold, bestAfter, Turn, turn, Walk, walk}
 use Rattle.model.specs.Calls.{withTrees}
 use Rattle.layout.specs.Layout.{slotAt, treeWords}
 use Rattle.layout.specs.Read.{readCache}
 use Rattle.tree.specs.Tree.{treeOf, Formed, HasGoals}
 use Rattle.sound.specs.Facts.{SoundWords}
-use Rattle.grow.specs.Grow.{InUse, Outside, growthOf}
-use Rattle.memory.specs.Memory.{Holds, FitsWords}
+use Rattle.grow.specs.declared.Growth.{Growth}
+use Rattle.grow.specs.Grow.{InUse, Outside}
+use Rattle.memory.specs.Memory.{FitsWords, HasNode}
 use Rattle.turn.specs.declared.Turned.{Turned}
+use Rattle.turn.specs.declared.Outcome.{Outcome}
+use Rattle.turn.specs.declared.Found.{Found}
 
 -- ---- the turns of all entries
 
@@ -53,30 +61,43 @@ pub record Steps (ws : List ℕ) (s : Search) (r : Turned) (left : List ℕ) : T
   pub sound : SoundWords left
   pub apart : Apart ws s left
 
--- ---- the turn of entry i
+-- ---- the turn of an entry, whose tree stands in slot i
 
-pub record CanTurn (ws : List ℕ) (s : Search) (i : ℕ) : Type 0 where
-  pub sound : SoundWords ws
-  pub fits : FitsWords ws s
-  pub is-entry : i < s .«tree_count»
+abbrev pub treeAt : List ℕ → ℕ → Tree
+treeAt ws i = tree (readCache ws .trees) i
 
-abbrev pub roundOf : List ℕ → Search → ℕ → Walk
-roundOf ws s i = let c = readCache ws in round (c .domain) i (record { trees = c .trees; search = s; tickets = 0 })
+-- the slot is in use, and the goals are vertices
+pub record CanTurn (ws : List ℕ) (i : ℕ) (gs : List ℕ) : Type 0 where
+  pub used : InUse ws i
+  pub goals : (j : ℕ) → j < length gs → getD gs j 0 < getD ws 1 0
 
-pub record Turns (ws : List ℕ) (s : Search) (i : ℕ) (r : Turned) (left : List ℕ) : Type 0 where
-  pub search : r .search ≡ roundOf ws s i .search
-  pub tickets : r .tickets ≡ roundOf ws s i .tickets
-  pub few : r .tickets ≤ 10
-  pub cache : readCache left ≡ withTrees (readCache ws) (roundOf ws s i .trees)
+-- the model's turn of the entry e, with goals gs and the bound b
+abbrev pub turnOf : List ℕ → TreeMemory → List ℕ → CostBound → Turn
+turnOf ws e gs b = turn (readCache ws .domain) gs b (treeAt ws (e .tree)) (e .«last_known_closed_len»)
+
+-- the turn u: what came of it, and the words hold the tree that it left
+pub record Turns (ws : List ℕ) (i : ℕ) (u : Turn) (r : Outcome) (left : List ℕ) : Type 0 where
+  pub known : r .known ≡ u .known
+  pub find : r .find ≡ u .find
+  pub more : r .more ≡ u .more
+  pub tickets : r .tickets ≡ u .tickets
+  pub cache : readCache left ≡ withTrees (readCache ws) (set (readCache ws .trees) i (u .tree))
   pub sound : SoundWords left
-  pub fits : FitsWords left (r .search)
-  pub outside : Outside (getD ws 1 0) (getD ws 2 0) (entry s i .tree) ws left
+  pub outside : Outside (getD ws 1 0) (getD ws 2 0) i ws left
 
--- the tree of entry i
-abbrev pub treeAt : List ℕ → Search → ℕ → Tree
-treeAt ws s i = tree (readCache ws .trees) (entry s i .tree)
+-- ---- 1. the bound and the lookup
 
--- ---- 1. the lookup
+abbrev pub bestEntry : BestSolution → ℕ
+bestEntry NoBest = 0
+bestEntry (Best i n) = i
+
+-- the best, if there is one, is a node of the tree in slot i
+abbrev pub CanBound : List ℕ → BestSolution → ℕ → Type 0
+CanBound ws best i = (j n : ℕ) → best ≡ Best j n → HasNode ws i n
+
+abbrev pub boundIn : List Node → BestSolution → CostBound
+boundIn ns NoBest = Unbounded
+boundIn ns (Best i n) = Bound (evaluation ns n)
 
 pub record CanLookUp (l : ℕ) (t gs : List ℕ) : Type 0 where
   pub formed : Formed l t
@@ -86,50 +107,38 @@ pub record CanLookUp (l : ℕ) (t gs : List ℕ) : Type 0 where
 abbrev pub looksUp : ℕ → List ℕ → List ℕ → KnownLen → Solution → Type 0
 looksUp l t gs known r = (d : Domain) → r ≡ lookup d (treeOf l t) gs known
 
-pub record LooksUp (ws : List ℕ) (s : Search) (i : ℕ) (r : Solution) : Type 0 where
-  pub find : r ≡ lookup (readCache ws .domain) (treeAt ws s i) (goals s) (entry s i .«last_known_closed_len»)
-  pub node : (n : ℕ) → r ≡ At n → n < length (treeAt ws s i .nodes)
+abbrev pub LooksUp : List ℕ → ℕ → List ℕ → KnownLen → Solution → Type 0
+LooksUp ws i gs known r = r ≡ lookup (readCache ws .domain) (treeAt ws i) gs known
 
--- ---- 2. and 3. growing the tree of entry i
+-- ---- 2. and 3. "the closed count is remembered, and a queue .. keeps the search unfinished"
 
--- "the closed count is remembered, and a queue .. keeps the search unfinished"
-abbrev pub rememberedIn : Tree → CostBound → Search → ℕ → Search
-rememberedIn t b s i =
-    let next = withKnown s i (closedCount (t .closed)) in
-    withExhausted next (exhaustedUnless (under (t .nodes) (least (t .nodes) (t .waiting)) b) (s .exhausted))
-
-pub record Grows (ws : List ℕ) (s : Search) (i : ℕ) (b : CostBound) (r : Turned) (left : List ℕ) : Type 0 where
-  pub search : r .search ≡ recorded (readCache ws .domain) b s i (grown (growthOf ws (entry s i .tree) (goals s) b) b)
-  pub tickets : r .tickets ≡ growthOf ws (entry s i .tree) (goals s) b .tickets
-  pub cache : readCache left ≡ withTrees (readCache ws) (set (readCache ws .trees) (entry s i .tree) (growthOf ws (entry s i .tree) (goals s) b .tree))
-  pub sound : SoundWords left
-  pub outside : Outside (getD ws 1 0) (getD ws 2 0) (entry s i .tree) ws left
+-- what comes of the growing g that left the tree t
+pub record Remembers (t : Tree) (g : Growth) (b : CostBound) (r : Outcome) : Type 0 where
+  pub known : r .known ≡ Len (closedCount (t .closed))
+  pub find : r .find ≡ g .solution
+  pub more : r .more ≡ under (t .nodes) (least (t .nodes) (t .waiting)) b
+  pub tickets : r .tickets ≡ g .tickets
 
 -- ---- 4. "A find replaces the entry's run unless dearer, and is best only if strictly cheaper."
 
-pub record CanRecord (ws : List ℕ) (s : Search) (i n : ℕ) : Type 0 where
-  pub sound : SoundWords ws
-  pub is-entry : i < 64
-  pub holds : Holds (readCache ws .trees) (entry s i)
-  pub node : n < length (treeAt ws s i .nodes)
+-- what the entry e holds, and the find o, are nodes of its tree
+pub record CanRecord (ws : List ℕ) (e : TreeMemory) (o : Solution) : Type 0 where
+  pub used : InUse ws (e .tree)
+  pub held : (n : ℕ) → e .solution ≡ At n → n < length (treeAt ws (e .tree) .nodes)
+  pub find : (n : ℕ) → o ≡ At n → n < length (treeAt ws (e .tree) .nodes)
+
+-- the solution that entry i holds after the find o, where it was e, and the best, where that was x
+abbrev pub foundOf : List ℕ → TreeMemory → Solution → CostBound → BestSolution → ℕ → Found
+foundOf ws e o b x i =
+    let d = readCache ws .domain in
+    let ns = treeAt ws (e .tree) .nodes in
+    record { solution = hold d ns (e .solution) o; best = bestAfter d ns b (e .solution) x i o }
+
+pub record CanCompare (ws : List ℕ) (i : ℕ) (held : Solution) : Type 0 where
+  pub used : InUse ws i
+  pub node : (n : ℕ) → held ≡ At n → n < length (treeAt ws i .nodes)
 
 -- a solution at a cost less than k is held
 abbrev pub dearerIn : List Node → ℕ → Solution → Bool
 dearerIn ns k Unsolved = false
 dearerIn ns k (At h) = ltb (evaluation ns h) k
-
-abbrev pub bestIn : Bool → Search → ℕ → ℕ → Search
-bestIn true s i n = withBest s i n
-bestIn false s i n = s
-
-abbrev pub foundBy : Bool → List Node → CostBound → Search → ℕ → ℕ → Search
-foundBy true ns b s i n = s
-foundBy false ns b s i n = bestIn (cheaper (evaluation ns n) b) (withSolution s i n) i n
-
--- the record with the find of entry i at node n
-abbrev pub foundIn : List Node → CostBound → Search → ℕ → ℕ → Search
-foundIn ns b s i n = foundBy (dearerIn ns (evaluation ns n) (entry s i .solution)) ns b s i n
-
-pub record CanCompare (ws : List ℕ) (slot : ℕ) (held : Solution) : Type 0 where
-  pub used : InUse ws slot
-  pub node : (n : ℕ) → held ≡ At n → n < length (tree (readCache ws .trees) slot .nodes)

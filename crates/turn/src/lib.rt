@@ -1,20 +1,22 @@
-// The turns of a search's entries, one after the other: the Rust's loop over `memory.trees` in `step`.
+// The turns of a search's entries, one after the other: the Rust's loop over `memory.trees` in `step`. Only `step_trees` is handed the
+// record, for each function that it is handed to copies it.
+use grow::Growth;
 use grow::slot_of;
-use memory::cost_bound;
 use memory::solution_cost;
+use model::BestSolution;
 use model::CostBound;
 use model::KnownLen;
 use model::Search;
 use model::Solution;
+use model::TreeMemory;
 use tree::partial_keyed_closed_set::cheapest_goal;
 use tree::partial_keyed_closed_set::closed_keys_len;
 ghost use mathlib.Core.Path.{_≡_};
 ghost use Rattle.model.specs.Tree.{least};
-ghost use Rattle.model.specs.Sound.{tree};
-ghost use Rattle.model.specs.Search.{remembers, under, cheaper};
-ghost use Rattle.layout.specs.Read.{readCache};
+ghost use Rattle.model.specs.Search.{remembers, grown, under, cheaper, exhaustedUnless};
 ghost use Rattle.tree.specs.Tree.{treeOf, Formed};
-ghost use Rattle.turn.specs.Turn.{CanStep, Steps, CanTurn, Turns, CanLookUp, LooksUp, looksUp, Grows, rememberedIn, CanRecord, foundIn, CanCompare, dearerIn, treeAt};
+ghost use Rattle.grow.specs.Grow.{InUse, growthOf};
+ghost use Rattle.turn.specs.Turn.{CanStep, Steps, treeAt, bestEntry, CanBound, boundIn, CanTurn, turnOf, Turns, LooksUp, CanLookUp, looksUp, Remembers, CanRecord, foundOf, CanCompare, dearerIn};
 
 // The search after some turns, and the tickets taken in them.
 pub struct Turned {
@@ -22,17 +24,49 @@ pub struct Turned {
     pub tickets: usize,
 }
 
+// What an entry's turn came to: the closed count that it is to remember, its find, whether its queue keeps the search unfinished, and
+// the tickets taken.
+pub struct Outcome {
+    pub known: KnownLen,
+    pub find: Solution,
+    pub more: bool,
+    pub tickets: usize,
+}
+
+// The solution that an entry holds after its turn, and the best.
+pub struct Found {
+    pub solution: Solution,
+    pub best: BestSolution,
+}
+
 // The turn of each entry in order. The search is finished unless a queue says otherwise.
 pub fn step_trees(words: &mut [u32], search: Search) -> Turned
     requires { ⌜ CanStep (now words) search ⌝ }
     ensures { λ r. ⌜ Steps (now (words .entry)) search r (now (words .exit)) ⌝ }
 {
+    let keys = search.goal_keys;
+    let count = search.goal_count;
+    let goals = &keys[0..count];
     let mut next = search.with_exhausted(true);
     let mut tickets = 0;
     let mut i = 0;
     while i < search.tree_count {
-        let r = turn(words, next, i);
-        next = r.search;
+        let memory = next.trees[i];
+        let best = next.best_solution;
+        let holder = next.trees[best_entry(best)];
+        let bound = cost_bound(words, best, holder.tree);
+        let r = turn(words, memory, goals, bound);
+        let find = r.find;
+        let found = record_find(words, memory, find, bound, best, i);
+        let known = r.known;
+        let solution = found.solution;
+        let after = TreeMemory {
+            tree: memory.tree,
+            last_known_closed_len: known,
+            solution,
+        };
+        let better = found.best;
+        next = next.with_turn(i, after, better, exhausted_unless(r.more, next.exhausted));
         tickets += r.tickets;
         i += 1;
     }
@@ -42,34 +76,63 @@ pub fn step_trees(words: &mut [u32], search: Search) -> Turned
     }
 }
 
-// An entry's turn: a closed goal is looked up, and with no find the tree is grown.
-fn turn(words: &mut [u32], search: Search, entry: usize) -> Turned
-    requires { ⌜ CanTurn (now words) search entry ⌝ }
-    ensures { λ r. ⌜ Turns (now (words .entry)) search entry r (now (words .exit)) ⌝ }
+// The entry that found the best; with no best, any.
+fn best_entry(best: BestSolution) -> usize
+    ensures { λ r. ⌜ r ≡ bestEntry best ⌝ }
 {
-    let bound = cost_bound(words, search);
-    match look_up(words, search, entry) {
-        Solution::Unsolved => grow_tree(words, search, entry, bound),
-        Solution::At(node) => Turned {
-            search: record_find(words, search, entry, bound, node),
+    match best {
+        BestSolution::NoBest => 0,
+        BestSolution::Best { entry, node: _ } => entry,
+    }
+}
+
+// What the best costs, a node of the tree in a slot: the bound of an entry's turn.
+fn cost_bound(words: &[u32], best: BestSolution, slot: usize) -> CostBound
+    requires { ⌜ CanBound (now words) best slot ⌝ }
+    ensures { λ r. ⌜ r ≡ boundIn (treeAt (now (words .entry)) slot .nodes) best ⌝ }
+{
+    match best {
+        BestSolution::NoBest => CostBound::Unbounded,
+        BestSolution::Best { entry: _, node } => CostBound::Bound(solution_cost(words, slot, node)),
+    }
+}
+
+fn exhausted_unless(more: bool, exhausted: bool) -> bool
+    ensures { λ r. ⌜ r ≡ exhaustedUnless more exhausted ⌝ }
+{
+    if more {
+        return false;
+    }
+    exhausted
+}
+
+// An entry's turn: a closed goal is looked up, and with no find the tree is grown. After a find by lookup nothing new is remembered.
+fn turn(words: &mut [u32], memory: TreeMemory, goals: &[u32], bound: CostBound) -> Outcome
+    requires { ⌜ CanTurn (now words) (memory .tree) (now goals) ⌝ }
+    ensures { λ r. ⌜ Turns (now (words .entry)) (memory .tree) (turnOf (now (words .entry)) memory (now (goals .entry)) bound) r (now (words .exit)) ⌝ }
+{
+    let known = memory.last_known_closed_len;
+    let find = look_up(words, memory.tree, goals, known);
+    match find {
+        Solution::Unsolved => grow_tree(words, memory.tree, goals, bound),
+        Solution::At(_) => Outcome {
+            known,
+            find,
+            more: false,
             tickets: 0,
         },
     }
 }
 
 // The cheapest closed goal, unless the closed count is the remembered one.
-fn look_up(words: &[u32], search: Search, entry: usize) -> Solution
-    requires { ⌜ CanTurn (now words) search entry ⌝ }
-    ensures { λ r. ⌜ LooksUp (now (words .entry)) search entry r ⌝ }
+fn look_up(words: &[u32], slot: usize, goals: &[u32], known: KnownLen) -> Solution
+    requires { ⌜ CanTurn (now words) slot (now goals) ⌝ }
+    ensures { λ r. ⌜ LooksUp (now (words .entry)) slot (now (goals .entry)) known r ⌝ }
 {
-    let memory = search.trees[entry];
-    let s = slot_of(words, memory.tree);
+    let s = slot_of(words, slot);
     let at = s.at;
     let end = s.end;
-    let keys = search.goal_keys;
-    let count = search.goal_count;
-    let known = memory.last_known_closed_len;
-    look_up_in(&words[at..end], s.edges, &keys[0..count], known)
+    look_up_in(&words[at..end], s.edges, goals, known)
 }
 
 fn look_up_in(tree: &[u32], edges: usize, goals: &[u32], known: KnownLen) -> Solution
@@ -91,43 +154,30 @@ fn is_known(known: KnownLen, len: usize) -> bool
     }
 }
 
-// At most ten tickets; then the closed count is remembered, and a find recorded.
-fn grow_tree(words: &mut [u32], search: Search, entry: usize, bound: CostBound) -> Turned
-    requires { ⌜ CanTurn (now words) search entry ⌝ }
-    ensures { λ r. ⌜ Grows (now (words .entry)) search entry bound r (now (words .exit)) ⌝ }
+// At most ten tickets; then the closed count is remembered.
+fn grow_tree(words: &mut [u32], slot: usize, goals: &[u32], bound: CostBound) -> Outcome
+    requires { ⌜ InUse (now words) slot ⌝ }
+    ensures { λ r. ⌜ Turns (now (words .entry)) slot (grown (growthOf (now (words .entry)) slot (now (goals .entry)) bound) bound) r (now (words .exit)) ⌝ }
 {
-    let memory = search.trees[entry];
-    let keys = search.goal_keys;
-    let count = search.goal_count;
-    let growth = grow::grow(words, memory.tree, &keys[0..count], bound);
-    let next = remember(words, search, entry, bound);
-    let solution = growth.solution;
-    match solution {
-        Solution::Unsolved => Turned {
-            search: next,
-            tickets: growth.tickets,
-        },
-        Solution::At(node) => Turned {
-            search: record_find(words, next, entry, bound, node),
-            tickets: growth.tickets,
-        },
-    }
+    let growth = grow::grow(words, slot, goals, bound);
+    remember(words, slot, growth, bound)
 }
 
 // The closed count is remembered, and a queue with a ticket under the bound keeps the search unfinished.
-fn remember(words: &[u32], search: Search, entry: usize, bound: CostBound) -> Search
-    requires { ⌜ CanTurn (now words) search entry ⌝ }
-    ensures { λ r. ⌜ r ≡ rememberedIn (treeAt (now (words .entry)) search entry) bound search entry ⌝ }
+fn remember(words: &[u32], slot: usize, growth: Growth, bound: CostBound) -> Outcome
+    requires { ⌜ InUse (now words) slot ⌝ }
+    ensures { λ r. ⌜ Remembers (treeAt (now (words .entry)) slot) growth bound r ⌝ }
 {
-    let memory = search.trees[entry];
-    let s = slot_of(words, memory.tree);
+    let s = slot_of(words, slot);
     let at = s.at;
     let end = s.end;
-    let next = search.with_known_len(entry, closed_keys_len(&words[at..end], s.edges));
-    if has_ticket_under(&words[at..end], s.edges, bound) {
-        return next.with_exhausted(false);
+    let find = growth.solution;
+    Outcome {
+        known: KnownLen::Len(closed_keys_len(&words[at..end], s.edges)),
+        find,
+        more: has_ticket_under(&words[at..end], s.edges, bound),
+        tickets: growth.tickets,
     }
-    next
 }
 
 // Whether the first ticket costs less than the bound; with no bound, whether there is one.
@@ -143,27 +193,47 @@ fn has_ticket_under(tree: &[u32], edges: usize, bound: CostBound) -> bool
 }
 
 // A find replaces the entry's solution unless dearer, and is the best only if strictly cheaper.
-fn record_find(words: &[u32], search: Search, entry: usize, bound: CostBound, node: u32) -> Search
-    requires { ⌜ CanRecord (now words) search entry node ⌝ }
-    ensures { λ r. ⌜ r ≡ foundIn (treeAt (now (words .entry)) search entry .nodes) bound search entry node ⌝ }
+fn record_find(
+    words: &[u32],
+    memory: TreeMemory,
+    find: Solution,
+    bound: CostBound,
+    best: BestSolution,
+    entry: usize,
+) -> Found
+    requires { ⌜ CanRecord (now words) memory find ⌝ }
+    ensures { λ r. ⌜ r ≡ foundOf (now (words .entry)) memory find bound best entry ⌝ }
 {
-    let memory = search.trees[entry];
-    let cost = solution_cost(words, memory.tree, node);
     let held = memory.solution;
+    let Solution::At(node) = find else {
+        return Found {
+            solution: held,
+            best,
+        };
+    };
+    let cost = solution_cost(words, memory.tree, node);
     if is_dearer(words, memory.tree, cost, held) {
-        return search;
+        return Found {
+            solution: held,
+            best,
+        };
     }
-    let next = search.with_solution(entry, node);
     if is_cheaper(cost, bound) {
-        return next.with_best(entry, node);
+        return Found {
+            solution: find,
+            best: BestSolution::Best { entry, node },
+        };
     }
-    next
+    Found {
+        solution: find,
+        best,
+    }
 }
 
 // Whether a solution is held that costs less.
 fn is_dearer(words: &[u32], slot: usize, cost: u32, held: Solution) -> bool
     requires { ⌜ CanCompare (now words) slot held ⌝ }
-    ensures { λ r. ⌜ r ≡ dearerIn (tree (readCache (now (words .entry)) .trees) slot .nodes) cost held ⌝ }
+    ensures { λ r. ⌜ r ≡ dearerIn (treeAt (now (words .entry)) slot .nodes) cost held ⌝ }
 {
     match held {
         Solution::Unsolved => false,

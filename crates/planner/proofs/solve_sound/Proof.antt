@@ -23,7 +23,7 @@ step-requires c κs = going-sound (c .before .before .loop .inv)
 
 add-tickets : tie.Need-add-tickets Inv-loop μ-loop
 add-tickets c =
-    let t = c .before .before .before .before in
+    let t = c .before .before .before in
     let l = t .before .before .before in
     record { fits = omega (arith, going-few (l .loop .inv) (t .step .ensures), l .loop .inv .few, l .before .before .pre .1) }
 

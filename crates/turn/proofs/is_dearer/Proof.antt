@@ -1,7 +1,7 @@
 -- `is_dearer` meets its contract.
 -- Assumes nothing.
 use borrow.Author.Needs.{needs}
-use Rattle.turn.proofs.Found.{held-node, held-dearer}
+use Rattle.turn.proofs.Held.{held-node, held-dearer}
 use Rattle.turn.proofs.is_dearer.Statement.{statement}
 use Rattle.turn.proofs.is_dearer.Tie as tie
 

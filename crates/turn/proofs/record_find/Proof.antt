@@ -1,37 +1,35 @@
 -- `record_find` meets its contract.
 -- Assumes nothing.
 use borrow.Author.Needs.{needs}
-use Rattle.turn.specs.Turn.{treeAt}
-use Rattle.turn.proofs.Found.{find-node, can-compare, found-dearer, found-best, found-held}
+use Rattle.turn.proofs.Held.{find-node, can-compare, found-none, found-dearer, found-best, found-held}
 use Rattle.turn.proofs.record_find.Statement.{statement}
 use Rattle.turn.proofs.record_find.Tie as tie
 
+returns : tie.Need-returns
+returns c = found-none _ (c .before .before .before .args .memory) _ _ _ (c .enum-told .given .1)
+
 solution-cost-requires : tie.Need-solution-cost-requires
-solution-cost-requires c κs = find-node (c .before .before .pre)
+solution-cost-requires c κs = find-node (c .before .before .before .before .pre) (c .before .find .given .1)
 
 is-dearer-requires : tie.Need-is-dearer-requires
-is-dearer-requires c κs = can-compare (c .before .before .before .pre)
-
-returns : tie.Need-returns
-returns c =
-    let h = c .before in
-    found-dearer _ _ _ _ _ (h .before .solution-cost .ensures) (h .is-dearer .ensures) (c .if1 .taken)
+is-dearer-requires c κs = can-compare (c .before .before .before .before .before .pre)
 
 returns-2 : tie.Need-returns-2
 returns-2 c =
-    let w = c .before .before .before in
-    let h = w .before .before in
-    let a = h .before .before .before .before .args in
-    found-best (treeAt (a .words .now) (a .t2) (a .entry) .nodes) (a .bound) (a .t2) _ _ (h .before .solution-cost .ensures) (h .is-dearer .ensures) (w .before .if1 .left) (w .with-solution .ensures)
-    (c .before .before .is-cheaper .ensures) (c .before .if2 .taken) (c .with-best .ensures)
+    let k = c .before .before in
+    found-dearer _ (k .before .before .before .before .before .args .memory) _ _ _ (k .before .before .find .given .1) (k .solution-cost .ensures) (c .before .is-dearer .ensures) (c .if1 .taken)
 
 returns-3 : tie.Need-returns-3
 returns-3 c =
-    let w = c .before .before in
-    let h = w .before .before in
-    let a = h .before .before .before .before .args in
-    found-held (treeAt (a .words .now) (a .t2) (a .entry) .nodes) (a .bound) (a .t2) _ _ (h .before .solution-cost .ensures) (h .is-dearer .ensures) (w .before .if1 .left) (w .with-solution .ensures)
-    (c .before .is-cheaper .ensures) (c .if2 .left)
+    let h = c .before .before .before in
+    let k = h .before in
+    found-best _ (k .before .before .before .before .before .args .memory) _ _ _ (k .before .before .find .given .1) (k .solution-cost .ensures) (h .is-dearer .ensures) (c .before .before .if1 .left) (c .before .is-cheaper .ensures) (c .if2 .taken)
+
+returns-4 : tie.Need-returns-4
+returns-4 c =
+    let h = c .before .before .before in
+    let k = h .before in
+    found-held _ (k .before .before .before .before .before .args .memory) _ _ _ (k .before .before .find .given .1) (k .solution-cost .ensures) (h .is-dearer .ensures) (c .before .before .if1 .left) (c .before .is-cheaper .ensures) (c .if2 .left)
 
 pub record-find-spec : {M : Type 1} → statement M
 record-find-spec =
@@ -39,11 +37,10 @@ record-find-spec =
     (tie.spec
     (λ c. search needs)
     (λ c. search needs)
+    returns
     solution-cost-requires
     is-dearer-requires
-    returns
-    (λ c κs. search needs)
-    (λ c κs. search needs)
-    (λ c κs. search needs)
     returns-2
-    returns-3)
+    (λ c κs. search needs)
+    returns-3
+    returns-4)
