@@ -423,7 +423,7 @@ unfoldable pub step : Domain → List Tree → Memory → Answered
 unfolding turnsOf backtrack
 step d ts m = stepWhen (m .exhausted) d ts m
 
--- ---- our record read as the Rust's: "a search's nodes read as their paths"
+-- ---- our record read as the Rust's, its nodes as their paths
 
 abbrev pub readKnown : KnownLen → Option ℕ
 readKnown Never = none

@@ -1,5 +1,5 @@
 -- When a tree, and the trees of a cache, are sound: 01's sentence "A book is sound if ..", clause by clause. A record of facts, and a test.
--- On words, "in heap order" and "unused words are 0" come on top; a queue is read as the ascending list of its nodes.
+-- On words, "in heap order" and "Unused words .. are 0" come on top; a queue is read as the ascending list of its nodes.
 -- Assumes nothing.
 use mathlib.Core.Path.{_≡_}
 use mathlib.Core.Logic.{_⊎_, _≢_}

@@ -39,7 +39,7 @@ abbrev pub solutionCloses : List ℕ → Tree → Solution → Bool
 solutionCloses gs t Unsolved = true
 solutionCloses gs t (At n) = closesGoal gs t n
 
--- "an entry's tree is not in use, a remembered count passes M, .. an entry's run .. is not the closed node of a wanted motif"
+-- "an entry's tree is not in use, a remembered count passes M .. an entry's run, .. is not the closed node of a wanted motif"
 abbrev pub entryTests : Domain → List Tree → List ℕ → TreeMemory → List Bool
 entryTests d ts gs e = ltb (e .tree) (length ts) ∷ knownWithin d (e .«last_known_closed_len») ∷ solutionCloses gs (tree ts (e .tree)) (e .solution) ∷ []
 

@@ -20,7 +20,7 @@ use Rattle.plant.specs.declared.Planned.{Planned}
 
 -- ---- planting: "New trees take the next slots in list order."
 
--- the words of a new tree that are not 0: start, nodes used, queue length, and the root; its one queue word is 0, the root's number
+-- the first seven words of a new tree: start, nodes used, queue length, and the root; its one queue word is 0, the root's number
 abbrev pub rootWords : ℕ → ℕ → List ℕ
 rootWords v k = v ∷ 1 ∷ 1 ∷ v ∷ k ∷ absent ∷ absent ∷ []
 

@@ -113,7 +113,7 @@ fn plant(words: &mut [u32], vertex: u32)
     words[layout::TREES] = used as u32 + 1;
 }
 
-// The words of a new tree that are not 0.
+// The first seven words of a new tree; all others are 0 already.
 fn put_root(tree: &mut [u32], vertex: u32, cost: u32)
     requires { ⌜ 7 ≤ length (now tree) ⌝ }
     ensures { λ _. ⌜ now (tree .exit) ≡ sets (now (tree .entry)) 0 (rootWords vertex cost) ⌝ }

@@ -24,7 +24,7 @@ answerOf (answered (solved k m)) = Solved k
 answerOf (answered noPath) = Impossible
 answerOf (refused n line) = Refused n
 
--- "Waits are waiting answers, tickets the sum over the order's steps": one step more than 1 + 64 × (1 + 2,048) waits, so that the last never waits
+-- waits are waiting answers, tickets the sum over the order's steps; one step more than 1 + 64 × (1 + 2,048) waits, so that the last never waits
 abbrev pub drove : Cache → Search → AfterSteps
 drove c s = stepsFrom 131138 c s 0 0
 

@@ -1,5 +1,6 @@
 // Whether the words of a cache are sound, as every call asks before it does anything else. Any words may be handed in. The
-// definition stands in `layout`, specs/Sound.antt; the order here is its order, and each function answers by clauses of it.
+// definition stands in `layout`, specs/Sound.antt; header, graph and trees come in its order, and each function answers by
+// clauses of it.
 pub mod trees;
 
 use crate::trees::is_zero;
