@@ -5,7 +5,7 @@ use mathlib.Core.Bool.{Bool, true}
 use mathlib.Core.List.{List}
 use Prim.Native.Nat.{ℕ, _-_, _<_, _≤_}
 use native.Mathlib.Omega.{arith}
-use borrow.Author.Tests.{lt-ltb, le-ltb, ltb-true}
+use borrow.Author.Tests.{lt-ltb, le-ltb}
 use lib.ListN.{length, getD, take}
 use Rattle.model.specs.declared.InitializeAnswer.the-variants.{Initialized}
 use Rattle.model.specs.declared.Refusal.the-variants.{TreesFull}
@@ -13,8 +13,8 @@ use Rattle.model.specs.declared.Search.{Search}
 use Rattle.model.specs.declared.SearchOpened.{SearchOpened}
 use Rattle.model.specs.Lists.{allBelow}
 use Rattle.layout.specs.Read.{readCache}
+use Rattle.tree.proofs.Parts.{below-in}
 use Rattle.sound.specs.Facts.{SoundWords}
-use Rattle.memory.proofs.Lists.{below-at}
 use Rattle.plant.specs.declared.Planned.{Planned}
 use Rattle.plant.specs.Plant.{plantedIn, withNew, CanPlantAll, PlantsAll, Plans}
 use Rattle.plant.proofs.Plans.{planned-length, planned-starts, can-plant-all}
@@ -25,7 +25,7 @@ use Rattle.dijkstra.proofs.Goals.{goals-taken}
 pub can-open : {ws vs gs : List ℕ} → SoundWords ws → {m : ℕ} → m ≡ getD ws 1 0 → length vs ≤ 64 → length gs ≤ 64 → allBelow m vs ≡ true
     → CanOpenSearch ws vs gs
 can-open {ws} {vs} ok {m} count few goals below = record {
-  plan = record { sound = ok; few = few; vertices = λ i h. omega (arith, count, ltb-true (getD vs i 0) m (below-at m vs below i h)) };
+  plan = record { sound = ok; few = few; vertices = λ i h. omega (arith, count, below-in m vs below i h) };
   goals = goals;
 }
 

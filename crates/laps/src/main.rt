@@ -4,6 +4,7 @@
 use layout::wide;
 use model::OpenAnswer;
 use model::Search;
+use planner::MAX_STEPS;
 use planner::solve;
 use sheet::orders::Numbers;
 use sheet::orders::read_list;
@@ -12,9 +13,6 @@ use text::bytes::read_number;
 ghost use Prim.Native.Nat.{_≤_};
 
 const WORDS: usize = 65536;
-
-// More steps than any search waits.
-const MAX_STEPS: u32 = 131138;
 
 fn main() {
     let mut chart = io::large_buffer();

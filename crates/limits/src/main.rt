@@ -2,7 +2,7 @@
 // words lent; then the answer, how many words it changed, and a sum of all words, those past the lent ones too.
 use layout::wide;
 use model::OpenAnswer;
-use model::Refusal;
+use model::number;
 ghost use Prim.Native.Nat.{_<_, _≤_};
 ghost use lib.ListN.{length};
 
@@ -106,21 +106,9 @@ fn print_answer(answer: OpenAnswer) {
         }
         OpenAnswer::Refused { refusal, line } => {
             io::write_all(1, b"refused ");
-            print(number(refusal));
+            print(number(refusal) as u64);
             print(line as u64);
         }
-    }
-}
-
-// 01's numbers; opening gives 1 to 5.
-fn number(refusal: Refusal) -> u64 {
-    match refusal {
-        Refusal::Malformed => 1,
-        Refusal::OutOfOrder => 2,
-        Refusal::NoSuchVertex => 3,
-        Refusal::OverLimit => 4,
-        Refusal::ShortCache => 5,
-        _ => 0,
     }
 }
 

@@ -1,6 +1,6 @@
 -- A record that fits a cache's words: what its entries, its best and the solutions held are there.
 -- Assumes nothing.
-use mathlib.Core.Path.{_≡_, refl, sym, ap, _∙_, subst}
+use mathlib.Core.Path.{_≡_, sym, ap, _∙_, subst}
 use mathlib.Core.Bool.{Bool, true}
 use mathlib.Core.List.{List}
 use Prim.Native.Nat.{ℕ, _<_, _≤_}
@@ -21,16 +21,16 @@ use Rattle.model.specs.declared.Search.{Search}
 use Rattle.model.specs.Lists.{mem, allb, allBelow}
 use Rattle.model.specs.Tree.{node, evaluation}
 use Rattle.model.specs.Sound.{tree}
-use Rattle.model.specs.Search.{blank, entry, entries, goals}
+use Rattle.model.specs.Search.{entry, entries, goals}
 use Rattle.model.specs.Valid.{listTests, knownWithin, closesGoal, solutionCloses, entryTests, everyb, bestTests, bestCloses, heldCost, validTests, valid}
 use Rattle.model.proofs.Bools.{and-true, all-true}
-use Rattle.model.proofs.Valid.{entries-length, entries-at}
+use Rattle.model.proofs.Valid.{every-at, entries-length, entries-at}
 use Rattle.layout.specs.Read.{readCache}
+use Rattle.tree.proofs.Parts.{below-in}
 use Rattle.sound.specs.Facts.{SoundWords}
 use Rattle.sound.proofs.Facts.{trees-length, sound-cache, vertices-read}
 use Rattle.grow.specs.Grow.{InUse}
 use Rattle.memory.specs.Memory.{HasNode, Listed, Holds, CanJudge, FitsWords}
-use Rattle.memory.proofs.Lists.{list-at, below-at}
 
 -- ---- an entry's tree
 
@@ -93,18 +93,17 @@ module _ (ws : List ℕ) (s : Search) (ok : SoundWords ws) (l : Listed s) where
 
   module _ (each : everyb passes (entries s) ≡ true) where
     pub held-at : (i : ℕ) → i < s .«tree_count» → Holds (readCache ws .trees) (entry s i)
-    unfolding everyb
     held-at i h =
         let fits = listed-fits l in
         holds-at ok (goals s) (entry s i) (subst (λ (e : TreeMemory). passes e ≡ true) (entries-at s fits i h)
-        (list-at passes blank (everyb passes) refl (λ x xs. refl) (entries s) each i (omega (arith, entries-length s fits))))
+        (every-at passes (entries s) each i (omega (arith, entries-length s fits))))
 
     fits-at : allBelow (getD ws 1 0) (goals s) ≡ true → bestCloses (readCache ws .trees) s (s .«best_solution») ≡ true → FitsWords ws s
     fits-at below best = record {
       listed = l;
       goals = λ i h.
           let long : length (goals s) ≡ s .«goal_count» = length-take-le (s .«goal_count») (s .«goal_keys») (omega (arith, l .keys, l .goals)) in
-          subst (λ (v : ℕ). v < getD ws 1 0) (getD-take (s .«goal_count») (s .«goal_keys») i 0 h) (ltb-true _ _ (below-at (getD ws 1 0) (goals s) below i (omega (arith, long))));
+          subst (λ (v : ℕ). v < getD ws 1 0) (getD-take (s .«goal_count») (s .«goal_keys») i 0 h) (below-in (getD ws 1 0) (goals s) below i (omega (arith, long)));
       held = held-at;
       best = λ i n z.
           let q = all-true (bestTests (readCache ws .trees) s i n) (subst (λ (x : BestSolution). bestCloses (readCache ws .trees) s x ≡ true) z best) in

@@ -1,4 +1,4 @@
--- A test of all elements of a list: what it says of each, and what is known of the elements passed from the front.
+-- A test of all elements of a list: it fails where one fails, and what is known of the elements passed from the front.
 -- Assumes nothing.
 use mathlib.Core.Path.{_≡_, refl, sym, ap, _∙_}
 use mathlib.Core.Bool.{Bool, true, false, _&&_, and-false}
@@ -11,15 +11,9 @@ use lib.Dec.{ltb}
 use lib.ListN.{length, getD, drop, drop-of-length-le}
 use lib.Seq.{drop-cons}
 use Rattle.model.specs.Lists.{allBelow}
-use Rattle.model.proofs.Bools.{and-true}
 
 -- `all` makes the test p of each element
 module _ {A : Type 0} (p : A → Bool) (z : A) (all : List A → Bool) (none : all [] ≡ true) (more : (x : A) (xs : List A) → all (x ∷ xs) ≡ (p x && all xs)) where
-  pub list-at : (xs : List A) → all xs ≡ true → (i : ℕ) → i < length xs → p (getD xs i z) ≡ true
-  list-at [] e i h = absurd (omega arith)
-  list-at (x ∷ xs) e zero h = and-true (p x) (all xs) (sym (more x xs) ∙ e) .0
-  list-at (x ∷ xs) e (suc i) h = list-at xs (and-true (p x) (all xs) (sym (more x xs) ∙ e) .1) i (omega arith)
-
   pub list-fails : (xs : List A) (i : ℕ) → i < length xs → p (getD xs i z) ≡ false → false ≡ all xs
   list-fails [] i h f = absurd (omega arith)
   list-fails (x ∷ xs) zero h f = sym (more x xs ∙ ap (λ (b : Bool). b && all xs) f)
@@ -39,9 +33,6 @@ module _ {A : Type 0} (p : A → Bool) (z : A) (all : List A → Bool) (none : a
 -- ---- all below n; w: the number read at place i
 
 module _ (n : ℕ) (vs : List ℕ) where
-  pub below-at : allBelow n vs ≡ true → (i : ℕ) → i < length vs → ltb (getD vs i 0) n ≡ true
-  below-at = list-at (λ (x : ℕ). ltb x n) 0 (allBelow n) refl (λ x xs. refl) vs
-
   pub below-fails : (i : ℕ) {w : ℕ} → w ≡ getD vs i 0 → i < length vs → n ≤ w → false ≡ allBelow n vs
   below-fails i at h b = list-fails (λ (x : ℕ). ltb x n) 0 (allBelow n) refl (λ x xs. refl) vs i h (le-ltb (getD vs i 0) n (omega arith))
 

@@ -1,4 +1,4 @@
--- What the tests over pairs, lists and ranges of numbers mean, each in both directions.
+-- What the tests over pairs, lists and ranges of numbers mean, most in both directions.
 -- Assumes nothing.
 use mathlib.Core.Path.{_≡_, refl, sym, ap₂}
 use mathlib.Core.Logic.{_⊎_, inl, inr}
@@ -7,7 +7,7 @@ use mathlib.Core.List.{List, [], _∷_, List·Memᴰ, List·Memᴰ·head, List·
 use Prim.Native.Nat.{ℕ, zero, suc, _<_}
 use native.Mathlib.Nat.{eq-or-lt-of-le, le-of-suc-le-suc}
 use native.Mathlib.Omega.{arith}
-use borrow.Author.Tests.{ltb-true, leb-true, eqb-true, lt-ltb, le-leb, eq-eqb}
+use borrow.Author.Tests.{ltb-true, leb-true, eqb-true, le-leb}
 use lib.Dec.{eqb, leb, ltb}
 use Rattle.model.specs.Lists.{mem, allb, allBelow, upto, allIn, anyIn, Ascends, ascendsb}
 
@@ -39,11 +39,7 @@ pub all-true : (bs : List Bool) → allb bs ≡ true → AllTrue bs
 all-true [] e = tt
 all-true (b ∷ bs) e = let p = and-true b (allb bs) e in (p .0, all-true bs (p .1))
 
-pub true-all : (bs : List Bool) → AllTrue bs → allb bs ≡ true
-true-all [] p = refl
-true-all (b ∷ bs) p = true-and b (allb bs) (p .0) (true-all bs (p .1))
-
--- the same for a list that is written out: each test's fact is one more argument
+-- and back, for a list that is written out: each test's fact is one more argument
 abbrev pub Given : List Bool → Type 0 → Type 0
 Given [] R = R
 Given (b ∷ bs) R = b ≡ true → Given bs R
@@ -121,10 +117,3 @@ all-below n (x ∷ xs) e v h = go (all-below n xs) (and-true (ltb x n) (allBelow
     go : (allBelow n xs ≡ true → (v : ℕ) → mem v xs ≡ true → v < n) → (ltb x n ≡ true) × (allBelow n xs ≡ true) → (eqb v x ≡ true) ⊎ (mem v xs ≡ true) → v < n
     go ih p (inl q) = rw (eqb-true v x q) (ltb-true x n (p .0))
     go ih p (inr q) = ih (p .1) v q
-
-pub below-all : (n : ℕ) (xs : List ℕ) → ((v : ℕ) → mem v xs ≡ true → v < n) → allBelow n xs ≡ true
-unfolding mem
-below-all n [] f = refl
-below-all n (x ∷ xs) f =
-    true-and (ltb x n) (allBelow n xs) (lt-ltb x n (f x (true-or-left (eqb x x) (mem x xs) (eq-eqb x x refl))))
-    (below-all n xs (λ v h. f v (true-or-right (eqb v x) (mem v xs) h)))

@@ -2,7 +2,7 @@
 -- stays, and how many nodes, tickets and costs there can be.
 -- Assumes nothing.
 use mathlib.Core.Path.{_≡_, refl, sym, ap, _∙_, subst}
-use mathlib.Core.Logic.{_⊎_, inl, inr, _≢_}
+use mathlib.Core.Logic.{_⊎_, inl, inr}
 use mathlib.Core.Bool.{Bool, true, false, not, true≢false}
 use mathlib.Core.List.{List, [], _∷_, List·Memᴰ, List·Memᴰ·head, List·Memᴰ·tail, List·Memᴰ·cases-cons}
 use Prim.Native.Nat.{ℕ, zero, suc, _+_, _<_, _≤_}
@@ -12,11 +12,11 @@ use lib.Dec.{eqb, eqb·suc-zero}
 use lib.ListN.{length, set, length-append}
 use Rattle.model.specs.declared.CostBound.{CostBound}
 use Rattle.model.specs.Lists.{mem}
-use Rattle.model.specs.Graph.{Domain, Direction, Accepted, cost}
+use Rattle.model.specs.Graph.{Domain, Accepted, cost}
 use Rattle.model.specs.Tree.{Tree, Node, node, closedAt, evaluation, least, leastOf, popped, expanded, Going, on, found, over, Growth, above, goingOn, taken, ticketOf, ticket, grow}
 use Rattle.model.specs.Sound.{Sound, Hangs}
 use Rattle.model.specs.Search.{closedCount, countIf}
-use Rattle.model.specs.Path.{snocIf, pathIn, path, wordsIf, wordsIn, words}
+use Rattle.model.specs.Path.{snocIf, pathIn, path}
 use Rattle.model.proofs.Lists.{before-cost, Least, least-is, without-length}
 use Rattle.model.proofs.Grow.{popped-sound, expanded-sound, expanded-ticket, expanded-is, old, still, closed-cases, closed-le, now, in-closed, cl′, new, closing}
 
@@ -111,9 +111,6 @@ module _ (d : Domain) (acc : Accepted (d .graph)) (goals : List ℕ) (b : CostBo
           same = λ e. absurd (omega (arith, counts));
           taken = omega (arith, expanded-ticket d acc t ok n m free first);
         }
-
-    expanded-later : Later t (expanded d (popped t n) n)
-    expanded-later = subst (Later t) (sym (expanded-is d acc t ok n m free first)) closing-later
 
 -- ---- what is known of a growth that began at t₀ with no ticket taken
 
@@ -257,20 +254,3 @@ module _ (d : Domain) (t t′ : Tree) (ok : Sound d t) (l : Later t t′) where
   pub path-later : (n : ℕ) → n < length (t .nodes) → path (t′ .nodes) n ≡ path (t .nodes) n
   unfolding path
   path-later n h = path-in n n h
-
-  words-in : (dir : Direction) (b n : ℕ) → n < length (t .nodes) → wordsIn dir (t′ .nodes) b n ≡ wordsIn dir (t .nodes) b n
-  unfolding wordsIn
-  words-in dir zero n h = rw (l .keeps n h)
-  words-in dir (suc b) n h = rw (l .keeps n h) (go (λ p. words-in dir b p) (eqb n 0) refl)
-    where
-      go : ((p : ℕ) → p < length (t .nodes) → wordsIn dir (t′ .nodes) b p ≡ wordsIn dir (t .nodes) b p) → (x : Bool) → eqb n 0 ≡ x
-          → wordsIf x dir (wordsIn dir (t′ .nodes) b ((node (t .nodes) n) .parent)) ((node (t .nodes) n) .edge) ((node (t .nodes) n) .vertex)
-          ≡ wordsIf x dir (wordsIn dir (t .nodes) b ((node (t .nodes) n) .parent)) ((node (t .nodes) n) .edge) ((node (t .nodes) n) .vertex)
-      go ih true e = refl
-      go ih false e =
-          let g : Hangs d (t .nodes) (t .closed) n = ok .hangs n (eqb-false n 0 e) h in
-          rw (ih ((node (t .nodes) n) .parent) (omega (arith, g .lower)))
-
-  pub words-later : (dir : Direction) (n : ℕ) → n < length (t .nodes) → words dir (t′ .nodes) n ≡ words dir (t .nodes) n
-  unfolding words
-  words-later dir n h = words-in dir n n h

@@ -1,10 +1,10 @@
 -- The reference's maps of trees, pushed nodes, openings and lookups are the definitions': trees by their slots, solutions by their nodes.
 -- Assumes nothing.
 use mathlib.Core.Path.{_≡_, refl, sym, ap, ap₂, _∙_}
-use mathlib.Core.Logic.{_≢_, _↔_}
+use mathlib.Core.Logic.{_≢_}
 use mathlib.Core.Bool.{Bool, true, false}
 use mathlib.Core.List.{List, [], _∷_, _++_, map, map-append}
-use mathlib.Core.Option.{Option, none, some, Option·none-ne-some}
+use mathlib.Core.Option.{Option, none, some}
 use Prim.Native.Nat.{ℕ, zero, suc, _-_, _<_}
 use native.Mathlib.Nat.{lt-of-not-le}
 use native.Mathlib.Decide.{decLe, ℕ-discrete}
@@ -91,10 +91,6 @@ module _ (d : Domain) (ts : List Tree) (ok : SoundTrees d ts) (i : ℕ) (h : i <
   pub put-is : (u : Tree) → put ts ((tree ts i) .start) u ≡ set ts i u
   put-is u = put-at ts u (ok .differ) i h
 
--- by its slot
-pub seek-get : (d : Domain) (ts : List Tree) → SoundTrees d ts → (v i : ℕ) → seek ts v 0 ≡ some i → get ts v ≡ some (tree ts i)
-seek-get d ts ok v i e = let s = seek-at ts v i e in rw (s .1) at (get-is d ts ok i (s .0))
-
 get-some : (ts : List Tree) (v i : ℕ) → i < length ts → (tree ts i) .start ≡ v → (t : Tree) × (get ts v ≡ some t)
 get-some [] v i h e = absurd (omega arith)
 get-some (t ∷ ts) v zero h e = (t, get-same t ts v e)
@@ -108,9 +104,6 @@ unplanted-get : (ts : List Tree) (v : ℕ) → Unplanted ts v → get ts v ≡ n
 unfolding get
 unplanted-get [] v f = refl
 unplanted-get (t ∷ ts) v f = get-other t ts v (f 0 (omega arith)) ∙ unplanted-get ts v (λ i h. f (suc i) (omega arith))
-
-pub get-none : (ts : List Tree) (v : ℕ) → get ts v ≡ none ↔ Unplanted ts v
-get-none ts v = (λ e i h z. let r = get-some ts v i h z in Option·none-ne-some (r .0) (sym e ∙ r .1), unplanted-get ts v)
 
 pub seek-missing : (ts : List Tree) (v : ℕ) → seek ts v 0 ≡ none → get ts v ≡ none
 seek-missing ts v e = unplanted-get ts v (seek-none ts v 0 e)

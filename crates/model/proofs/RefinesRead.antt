@@ -119,14 +119,3 @@ module _ (d : Domain) (ts ts′ : List Tree) (ok : SoundTrees d ts) (l : AllLate
   pub read-later : readMemory d ts′ s ≡ readMemory d ts s
   unfolding readMemory
   read-later = ap₂ (λ (es : List TreeEntry) (o : Option BestCost). record { trees = es; goalKeys = goals s; bestSolution = o; exhausted = s .exhausted }) entries-later best-later
-
-  pub readable-later : Readable d ts′ s
-  readable-later =
-      let longer : (i n : ℕ) → i < s .«tree_count» → n < length (tree ts ((entry s i) .tree) .nodes) → n < length (tree ts′ ((entry s i) .tree) .nodes) =
-      λ i n h k. omega (arith, l .each ((entry s i) .tree) (r .slots i h) .longer) in
-      record {
-        sized = r .sized;
-        slots = λ i h. omega (arith, r .slots i h, l .longer);
-        held = λ i n h e. longer i n h (r .held i n h e);
-        best = λ i n e. let k = r .best i n e in (k .0, longer i n (k .0) (k .1));
-      }

@@ -169,9 +169,6 @@ module _ (d : Domain) (acc : Accepted (d .graph)) (t : Tree) (ok : Sound d t) wh
   -- ---- node n of the tree
 
   module _ (n : ℕ) (h : n < length (t .nodes)) where
-    pub retrace-start : (retraceNode (t .nodes) n) .initialState ≡ t .start
-    retrace-start = ap (λ (p : Path). p .initialState) (retraced n h)
-
     -- in the direction of the graph's edges
     pub retrace-words : (dir : Direction) → pathWords (inChart dir (retraceNode (t .nodes) n)) ≡ words dir (t .nodes) n
     unfolding words

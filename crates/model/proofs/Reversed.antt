@@ -2,10 +2,10 @@
 -- Assumes nothing.
 use mathlib.Core.Path.{_≡_, refl, sym, ap, _∙_, subst}
 use mathlib.Core.List.{List, [], _∷_, _++_, map}
-use Prim.Native.Nat.{ℕ, _+_}
+use Prim.Native.Nat.{ℕ}
 use native.Mathlib.Omega.{arith}
 use lib.ListN.{length, getD, length-map, length-append, List·getD-map}
-use Rattle.model.specs.Graph.{Graph, Edge, noEdge, absent, vertexCount, edgeCount, from, to, cost, Accepted, Leads, total, Direction, forward, backward, swap, reversed, domain, initialCost}
+use Rattle.model.specs.Graph.{Graph, Edge, noEdge, vertexCount, edgeCount, from, to, cost, Accepted, Leads, total, Direction, forward, backward, swap, reversed, domain}
 use Rattle.model.proofs.Paths.{leads-snoc, total-snoc}
 
 -- ---- a list read from its end
@@ -18,11 +18,6 @@ pub back-snoc : (ls : List ℕ) (l : ℕ) → back (ls ++ (l ∷ [])) ≡ l ∷ 
 unfolding back
 back-snoc [] l = refl
 back-snoc (k ∷ ks) l = ap (λ (r : List ℕ). r ++ (k ∷ [])) (back-snoc ks l)
-
-pub back-back : (ls : List ℕ) → back (back ls) ≡ ls
-unfolding back
-back-back [] = refl
-back-back (l ∷ ls) = back-snoc (back ls) l ∙ ap (λ (r : List ℕ). l ∷ r) (back-back ls)
 
 pub back-length : (ls : List ℕ) → length (back ls) ≡ length ls
 unfolding back
@@ -48,10 +43,6 @@ module _ (g : Graph) where
   pub reverse-count : edgeCount (reversed g) ≡ edgeCount g
   unfolding reversed
   reverse-count = length-map (g .edges) swap
-
-  pub reverse-initial : (reversed g) .initial ≡ g .initial
-  unfolding reversed
-  reverse-initial = refl
 
   pub reverse-vertices : vertexCount (reversed g) ≡ vertexCount g
   unfolding reversed
@@ -117,19 +108,3 @@ pub domain-twice : (dir : Direction) (g : Graph) → domain dir (domain dir g .g
 unfolding domain
 domain-twice forward g = refl
 domain-twice backward g = λ i. record { direction = backward; graph = record { initial = g .initial; edges = swapped-twice (g .edges) i } }
-
-pub domain-forward : (g : Graph) → (domain forward g) .graph ≡ g
-unfolding domain
-domain-forward g = refl
-
-pub domain-backward : (g : Graph) → (domain backward g) .graph ≡ reversed g
-unfolding domain
-domain-backward g = refl
-
-pub initial-forward : (g : Graph) (v : ℕ) → initialCost (domain forward g) v ≡ getD (g .initial) v absent
-unfolding domain initialCost
-initial-forward g v = refl
-
-pub initial-backward : (g : Graph) (v : ℕ) → initialCost (domain backward g) v ≡ 0
-unfolding domain initialCost
-initial-backward g v = refl

@@ -5,7 +5,7 @@ use mathlib.Core.Logic.{_⊎_, inl, inr, _≢_}
 use mathlib.Core.Bool.{Bool, true, false, true≢false}
 use mathlib.Core.List.{List}
 use Prim.Native.Nat.{ℕ, zero, suc, _+_, _<_, _≤_}
-use native.Mathlib.Nat.{le-of-lt}
+use native.Mathlib.Nat.{le-of-lt, lt-of-lt-of-le}
 use native.Mathlib.Omega.{arith}
 use native.Mathlib.Decide.{ℕ-discrete}
 use borrow.Author.Tests.{ltb-true, ltb-false}
@@ -124,12 +124,9 @@ not-cheaper : (k : ℕ) (b : CostBound) → cheaper k b ≡ false → Under b k
 not-cheaper k Unbounded e = absurd (true≢false e)
 not-cheaper k (Bound b) e = ltb-false _ _ e
 
-lt-of-lt-of-le : (a b c : ℕ) → a < b → b ≤ c → a < c
-lt-of-lt-of-le a b c p q = omega arith
-
 is-cheaper : (k : ℕ) (b : CostBound) → cheaper k b ≡ true → (j : ℕ) → Under b j → k ≤ j
 is-cheaper k Unbounded e j u = absurd u
-is-cheaper k (Bound b) e j u = le-of-lt (lt-of-lt-of-le k b j (ltb-true k b e) u)
+is-cheaper k (Bound b) e j u = le-of-lt (lt-of-lt-of-le (ltb-true k b e) u)
 
 -- a dearer find is dearer than what is held
 dearer-held : (d : Domain) (ns : List Node) (n : ℕ) (h : Solution) → dearer d ns n h ≡ true → (m : ℕ) × (h ≡ At m) × (evaluation ns m ≤ evaluation ns n)

@@ -13,8 +13,8 @@ use lib.Dec.{eqb, leb, ltb}
 use lib.ListN.{length, getD, length-map, List·getD-map, List·getD-eq-default}
 use Rattle.model.specs.Lists.{mem, upto, allIn}
 use Rattle.model.specs.Graph.{Domain, from, to, absent, edgesInUse, initialCost}
-use Rattle.model.specs.Tree.{Tree, Node, node, closedAt, evaluation, weight}
-use Rattle.model.specs.Sound.{noTree, tree, Hangs, Reached, shut, waits, Sound, SoundTrees, closedb, shutb, reachedb, hangTests, hangsb, soundTests, soundb, starts, distinctb, soundTreesb}
+use Rattle.model.specs.Tree.{Tree, Node, node, closedAt, closedWithin, evaluation, weight}
+use Rattle.model.specs.Sound.{noTree, tree, Hangs, Reached, shut, waits, Sound, SoundTrees, closedb, reachedb, hangTests, hangsb, soundTests, soundb, starts, distinctb, soundTreesb}
 use Rattle.model.proofs.Lists.{mem-listed, listed-mem}
 use Rattle.model.proofs.Choices.{in-use-mem, in-use-has}
 use Rattle.model.proofs.Bools.{and-true, true-and, or-cases, true-or-left, true-or-right, all-true, true-given, upto-at, at-upto, all-in-at, at-all-in, any-in-at, at-any-in, ascends-at, at-ascends}
@@ -41,7 +41,7 @@ word-at p (suc i) f = f i refl
 
 reached-at : (ns : List Node) (q cl : List ℕ) (v k : ℕ) → reachedb ns q cl v k ≡ true → Reached ns q cl v k
 unfolding reachedb
-reached-at ns q cl v k e = elim (or-cases (shutb ns k (closedAt cl v)) _ e) [
+reached-at ns q cl v k e = elim (or-cases (closedWithin ns k (closedAt cl v)) _ e) [
   | inl z ↦ go (closedAt cl v) refl z
   | inr z ↦
       let r = any-in-at _ q z in
@@ -49,14 +49,14 @@ reached-at ns q cl v k e = elim (or-cases (shutb ns k (closedAt cl v)) _ e) [
       waits (r .0) (r .1) (eqb-true _ _ (p .0)) (leb-true _ _ (p .1))
 ]
   where
-    go : (x : ℕ) → closedAt cl v ≡ x → shutb ns k x ≡ true → Reached ns q cl v k
+    go : (x : ℕ) → closedAt cl v ≡ x → closedWithin ns k x ≡ true → Reached ns q cl v k
     go zero y z = absurd (true≢false (sym z))
     go (suc i) y z = shut i y (leb-true _ _ z)
 
 at-reached : (ns : List Node) (q cl : List ℕ) (v k : ℕ) → Reached ns q cl v k → reachedb ns q cl v k ≡ true
 unfolding reachedb
-at-reached ns q cl v k (shut i e h) = true-or-left (shutb ns k (closedAt cl v)) _ (subst (λ (x : ℕ). shutb ns k x ≡ true) (sym e) (le-leb _ _ h))
-at-reached ns q cl v k (waits i w e h) = true-or-right (shutb ns k (closedAt cl v)) _
+at-reached ns q cl v k (shut i e h) = true-or-left (closedWithin ns k (closedAt cl v)) _ (subst (λ (x : ℕ). closedWithin ns k x ≡ true) (sym e) (le-leb _ _ h))
+at-reached ns q cl v k (waits i w e h) = true-or-right (closedWithin ns k (closedAt cl v)) _
     (at-any-in (λ i. eqb ((node ns i) .vertex) v && leb (evaluation ns i) k) q i w (true-and _ _ (eq-eqb _ _ e) (le-leb _ _ h)))
 
 -- ---- hangs

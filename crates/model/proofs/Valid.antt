@@ -31,7 +31,7 @@ use Rattle.model.proofs.Rounds.{EntryOk, BestsOk, Ready}
 
 -- ---- tests of all entries
 
-every-at : (p : TreeMemory → Bool) (es : List TreeMemory) → everyb p es ≡ true → (i : ℕ) → i < length es → p (getD es i blank) ≡ true
+pub every-at : (p : TreeMemory → Bool) (es : List TreeMemory) → everyb p es ≡ true → (i : ℕ) → i < length es → p (getD es i blank) ≡ true
 unfolding everyb
 every-at p [] e i h = absurd (omega arith)
 every-at p (x ∷ xs) e zero h = and-true (p x) (everyb p xs) e .0

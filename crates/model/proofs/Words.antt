@@ -121,7 +121,3 @@ length-in dir ns (suc b) n = go (length-in dir ns b ((node ns n) .parent)) (eqb 
 pub words-count : (dir : Direction) (ns : List Node) (n : ℕ) → length (words dir ns n) ≡ 1 + 2 * movesOf ns n
 unfolding path words
 words-count dir ns n = length-in dir ns n n
-
-module _ (d : Domain) (t : Tree) (ok : Sound d t) where
-  pub words-length : (n : ℕ) → n < length (t .nodes) → (dir : Direction) → length (words dir (t .nodes) n) ≡ 1 + 2 * movesOf (t .nodes) n
-  words-length n h dir = words-count dir (t .nodes) n

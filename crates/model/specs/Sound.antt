@@ -3,14 +3,14 @@
 -- Assumes nothing.
 use mathlib.Core.Path.{_≡_}
 use mathlib.Core.Logic.{_⊎_, _≢_}
-use mathlib.Core.Bool.{Bool, true, false, not, _&&_, _||_}
+use mathlib.Core.Bool.{Bool, true, not, _&&_, _||_}
 use mathlib.Core.List.{List, [], _∷_, List·Memᴰ, map}
 use Prim.Native.Nat.{ℕ, zero, suc, _+_, _<_, _≤_}
 use lib.Dec.{eqb, leb, ltb}
 use lib.ListN.{length, getD}
 use Rattle.model.specs.Lists.{those, mem, allb, upto, allIn, anyIn, Ascends, ascendsb}
 use Rattle.model.specs.Graph.{Graph, Domain, from, to, cost, absent, vertexCount, Usable, usableb, edgesInUse, initialCost}
-use Rattle.model.specs.Tree.{Tree, Node, node, closedAt, evaluation, weight}
+use Rattle.model.specs.Tree.{Tree, Node, node, closedAt, closedWithin, evaluation, weight}
 
 abbrev pub noTree : Tree
 noTree = record { start = 0; nodes = []; waiting = []; closed = [] }
@@ -77,13 +77,9 @@ abbrev pub closedb : (ℕ → Bool) → ℕ → Bool
 closedb p zero = true
 closedb p (suc i) = p i
 
-abbrev pub shutb : List Node → ℕ → ℕ → Bool
-shutb ns k zero = false
-shutb ns k (suc i) = leb (evaluation ns i) k
-
 unfoldable pub reachedb : List Node → List ℕ → List ℕ → ℕ → ℕ → Bool
 unfolding anyIn
-reachedb ns q cl v k = shutb ns k (closedAt cl v) || anyIn (λ i. eqb ((node ns i) .vertex) v && leb (evaluation ns i) k) q
+reachedb ns q cl v k = closedWithin ns k (closedAt cl v) || anyIn (λ i. eqb ((node ns i) .vertex) v && leb (evaluation ns i) k) q
 
 abbrev pub hangTests : Domain → List Node → List ℕ → ℕ → List Bool
 hangTests d ns cl i =

@@ -2,6 +2,7 @@
 // document 01's number and values, and the promises of the calls use that definition.
 ghost use mathlib.Core.Path.{_≡_};
 ghost use Prim.Native.Nat.{_<_};
+ghost use Rattle.model.specs.Answers.{number as Answers·number};
 ghost use Rattle.model.specs.Search.{emptySearch, withEntry, withGoal, withTurn, withExhausted};
 
 // Returned instead of an answer; specs/Answers.antt numbers them.
@@ -16,6 +17,24 @@ pub enum Refusal {
     InvalidSearch,
     NotSolved,
     ShortPath,
+}
+
+// 01's numbers.
+pub fn number(refusal: Refusal) -> u32
+    ensures { λ r. ⌜ r ≡ Answers·number refusal ⌝ }
+{
+    match refusal {
+        Refusal::Malformed => 1,
+        Refusal::OutOfOrder => 2,
+        Refusal::NoSuchVertex => 3,
+        Refusal::OverLimit => 4,
+        Refusal::ShortCache => 5,
+        Refusal::TreesFull => 6,
+        Refusal::Unsound => 7,
+        Refusal::InvalidSearch => 8,
+        Refusal::NotSolved => 9,
+        Refusal::ShortPath => 10,
+    }
 }
 
 // The Rust's `Option<usize>` of `last_known_closed_len`.

@@ -11,6 +11,9 @@ ghost use Rattle.model.specs.Answers.{stepReply};
 ghost use Rattle.layout.specs.Sound.{soundWordsb};
 ghost use Rattle.planner.specs.Solve.{Solving, isWaiting};
 
+// One step more than a search of 64 trees and 2,048 edges waits: 1 + 64 × (1 + 2,048) waits, and then its answer.
+pub const MAX_STEPS: u32 = 131138;
+
 // What some steps came to: the answer of the last, how many waited, the tickets of all, and the search.
 pub struct StepsTaken {
     pub answer: StepAnswer,

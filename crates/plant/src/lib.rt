@@ -2,6 +2,7 @@
 use layout::wide;
 use model::Search;
 use sound::trees::root_cost;
+use text::counts::MAX_VERTICES;
 use tree::Node;
 ghost use mathlib.Core.Path.{_≡_};
 ghost use Prim.Native.Nat.{_≤_};
@@ -9,9 +10,6 @@ ghost use lib.ListN.{length};
 ghost use lib.Seq.{sets};
 ghost use Rattle.layout.specs.Read.{readCache};
 ghost use Rattle.plant.specs.Plant.{CanPlan, Plans, SlotTable, CanFindTrees, PlansRoot, CanPlanRoot, CanPlant, Plants, CanPlantAll, PlantsAll, rootWords};
-
-// 01's limit of vertices.
-const MAX_VERTICES: usize = 1024;
 
 // The entries of a search, and the start vertices of the trees that are not there yet.
 pub struct Planned {

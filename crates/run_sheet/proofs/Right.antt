@@ -21,19 +21,16 @@ use Rattle.sound.proofs.Opened.{opened-sound}
 use Rattle.planner.specs.Solve.{isWaiting, AfterSteps, stepsIf, stepsFrom}
 use Rattle.run_sheet.specs.Orders.{Ordered, orderedBy, ordered, RightLine, RightLines, OrdersAreCalls}
 use Rattle.run_sheet.specs.Sheet.{Called, PrintsRight, LinesAreRight, OpensCalled}
+use Rattle.run_sheet.proofs.Texts.{ordered-is}
 use Rattle.run_sheet.proofs.Bounds.{waits-few}
 use Rattle.run_sheet.proofs.Driven.{Rest, line-from}
 
 -- ---- an order
 
-ordered-is : (i : ℕ) (c : Cache) (ss gs : List ℕ) → ordered i c ss gs ≡ orderedBy (initialize c ss gs .reply) (initialize c ss gs) i
-unfolding ordered
-ordered-is i c ss gs = refl
-
 -- by the reply of its opening
 ordered-by : (i : ℕ) (c : Cache) (ss gs : List ℕ) (x : Reply (Unit {0})) → initialize c ss gs .reply ≡ x → ordered i c ss gs .text ≡ orderedBy x (initialize c ss gs) i .text
 ordered-by i c ss gs x e =
-    ap (λ (y : Ordered). y .text) (ordered-is i c ss gs) ∙ ap (λ (y : Reply (Unit {0})). orderedBy y (initialize c ss gs) i .text) e
+    ap (λ (y : Ordered). y .text) (sym (ordered-is i c ss gs)) ∙ ap (λ (y : Reply (Unit {0})). orderedBy y (initialize c ss gs) i .text) e
 
 pub right-lines : RightLines
 right-lines dir g acc slots before ss gs i e =
@@ -71,7 +68,7 @@ steps-calls (suc n) c s w t = go (steps-calls n (r .cache) (r .search) (w + 1) u
     go ih false = (stepping s ∷ [], refl)
 
 pub orders-are-calls : OrdersAreCalls
-orders-are-calls i c ss gs = rw (ordered-is i c ss gs) (go (r .reply))
+orders-are-calls i c ss gs = rw (sym (ordered-is i c ss gs)) (go (r .reply))
   where
     r : AfterInitialize
     r = initialize c ss gs

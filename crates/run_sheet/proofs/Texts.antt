@@ -82,7 +82,7 @@ module _ (ws : List ℕ) (t : StepsTaken) (i : ℕ) where
 
 -- ---- an order of legal form
 
-ordered-is : (i : ℕ) (c : Cache) (ss gs : List ℕ) → let r = initialize c ss gs in orderedBy (r .reply) r i ≡ ordered i c ss gs
+pub ordered-is : (i : ℕ) (c : Cache) (ss gs : List ℕ) → let r = initialize c ss gs in orderedBy (r .reply) r i ≡ ordered i c ss gs
 unfolding ordered
 ordered-is i c ss gs = refl
 

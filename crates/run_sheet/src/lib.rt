@@ -3,7 +3,7 @@ pub mod files;
 pub mod order;
 
 use model::OpenAnswer;
-use order::number;
+use model::number;
 use order::put_order;
 use order::put_refusal;
 use sheet::answers::put_refused;

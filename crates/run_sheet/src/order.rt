@@ -1,9 +1,10 @@
 // One order: its search is opened on the cache of its direction and stepped until it answers, and its line is put.
 use model::InitializeAnswer;
-use model::Refusal;
 use model::RetraceAnswer;
 use model::SearchStatus;
 use model::StepAnswer;
+use model::number;
+use planner::MAX_STEPS;
 use planner::StepsTaken;
 use sheet::answers::Answer;
 use sheet::answers::Line;
@@ -13,14 +14,11 @@ use sheet::orders::Numbers;
 use sheet::orders::read_order;
 ghost use mathlib.Core.Path.{_≡_};
 ghost use mathlib.Core.Bool.{true};
-ghost use Rattle.model.specs.Answers.{stepReply, number as Answers·number};
+ghost use Rattle.model.specs.Answers.{stepReply};
 ghost use Rattle.layout.specs.Sound.{soundWordsb};
 ghost use Rattle.sheet.specs.Answers.{Puts};
 ghost use Rattle.run_sheet.specs.Orders.{answerOf, refusedText, drivenText};
 ghost use Rattle.run_sheet.specs.Sheet.{CanPut, InArrays, Counted, afterSteps, listed, Ran, RanLine, CalledBoth};
-
-// One step more than a search of 64 trees and 2,048 edges waits: 1 + 64 × (1 + 2,048) waits, and then its answer.
-const MAX_STEPS: u32 = 131138;
 
 // The words of a path of 1,023 moves, the most there are among 1,024 vertices.
 const MAX_PATH: usize = 2047;
@@ -130,23 +128,5 @@ fn put_driven(words: &[u32], order: usize, taken: StepsTaken, out: &mut [u8]) ->
             let n = 1 + 2 * moves;
             put_line(out, line, &path[0..n])
         }
-    }
-}
-
-// 01's numbers.
-pub fn number(refusal: Refusal) -> u32
-    ensures { λ r. ⌜ r ≡ Answers·number refusal ⌝ }
-{
-    match refusal {
-        Refusal::Malformed => 1,
-        Refusal::OutOfOrder => 2,
-        Refusal::NoSuchVertex => 3,
-        Refusal::OverLimit => 4,
-        Refusal::ShortCache => 5,
-        Refusal::TreesFull => 6,
-        Refusal::Unsound => 7,
-        Refusal::InvalidSearch => 8,
-        Refusal::NotSolved => 9,
-        Refusal::ShortPath => 10,
     }
 }

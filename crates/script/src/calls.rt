@@ -15,6 +15,7 @@ use crate::print::print_stepped;
 use crate::print::print_words;
 use crate::state::RECORDS;
 use crate::state::State;
+use crate::state::WORDS;
 use crate::state::least;
 use crate::sum::sum;
 use model::InitializeAnswer;
@@ -25,9 +26,6 @@ ghost use Prim.Native.Nat.{_<_};
 
 // What an untouched word holds.
 const UNTOUCHED: u32 = 7;
-
-// The words of a direction.
-const WORDS: usize = 16384;
 
 // The words of the run slice, and the moves that they have room for.
 const RUN: usize = 4096;

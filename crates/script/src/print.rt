@@ -1,4 +1,5 @@
 // What the calls answer, as lines.
+use layout::wide;
 use model::BestSolution;
 use model::InitializeAnswer;
 use model::KnownLen;
@@ -9,6 +10,7 @@ use model::SearchStatus;
 use model::Solution;
 use model::StepAnswer;
 use model::Stepped;
+use model::number;
 ghost use Prim.Native.Nat.{_<_};
 
 pub fn print(text: &[u8]) {
@@ -43,24 +45,8 @@ pub fn print_words(name: &[u8], words: &[u32]) {
     print(b"\n");
 }
 
-// 01's numbers.
-fn number(refusal: Refusal) -> usize {
-    match refusal {
-        Refusal::Malformed => 1,
-        Refusal::OutOfOrder => 2,
-        Refusal::NoSuchVertex => 3,
-        Refusal::OverLimit => 4,
-        Refusal::ShortCache => 5,
-        Refusal::TreesFull => 6,
-        Refusal::Unsound => 7,
-        Refusal::InvalidSearch => 8,
-        Refusal::NotSolved => 9,
-        Refusal::ShortPath => 10,
-    }
-}
-
 pub fn print_refusal(refusal: Refusal) {
-    print_named(b"refused", number(refusal));
+    print_named(b"refused", wide(number(refusal)));
 }
 
 // Opening a cache alone has a line at fault.
@@ -71,7 +57,7 @@ pub fn print_opened_cache(answer: OpenAnswer) {
         }
         OpenAnswer::Refused { refusal, line } => {
             print(b"refused ");
-            print_number(number(refusal));
+            print_word(number(refusal));
             print(b" ");
             print_number(line);
             print(b"\n");

@@ -10,15 +10,13 @@ use crate::print::print_record;
 use crate::state::RECORDS;
 use crate::state::State;
 use layout::wide;
+use memory::MAX_ENTRIES;
 use model::BestSolution;
 use model::KnownLen;
 use model::Search;
 use model::Solution;
 use model::TreeMemory;
 ghost use Prim.Native.Nat.{_<_};
-
-// A record has room for this many entries and as many goals.
-const ROOM: usize = 64;
 
 pub fn on_record(name: &[u8], f: Fields, state: State) -> State {
     let k = f.values[1];
@@ -91,7 +89,7 @@ fn set_entry(f: Fields, state: State, k: usize) -> State
     if f.count != 6 {
         return state.passed_over();
     }
-    if ROOM <= i {
+    if MAX_ENTRIES <= i {
         return state.passed_over();
     }
     if MAX_NUMBER < slot {
@@ -138,7 +136,7 @@ fn set_goal(f: Fields, state: State, k: usize) -> State
     if f.count != 4 {
         return state.passed_over();
     }
-    if ROOM <= i {
+    if MAX_ENTRIES <= i {
         return state.passed_over();
     }
     if MAX_NUMBER < vertex {

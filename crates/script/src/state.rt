@@ -5,6 +5,9 @@ ghost use Prim.Native.Nat.{_<_, _≤_};
 
 pub const RECORDS: usize = 8;
 
+// The words of one direction.
+pub const WORDS: usize = 16384;
+
 // The length of the chart text, how many words of each direction are lent, and the search records.
 pub struct State {
     pub chart: usize,

@@ -150,7 +150,7 @@ fn digit(n: usize) -> u8
     (48 + n) as u8
 }
 
-fn put_bytes(out: &mut [u8], at: usize, text: &[u8]) -> usize
+pub fn put_bytes(out: &mut [u8], at: usize, text: &[u8]) -> usize
     requires { ⌜ at + length (now text) ≤ length (now out) ⌝ }
     ensures { λ r. ⌜ Puts (now (out .entry)) at (now (text .entry)) r (now (out .exit)) ⌝ }
 {

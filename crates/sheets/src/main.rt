@@ -1,5 +1,5 @@
 // The order sheets of many charts: for each, a line `# NAME` and its sheet. The files are in the folder NAME.
-ghost use mathlib.Core.Path.{_≡_};
+use sheet::answers::put_bytes;
 ghost use Prim.Native.Nat.{_+_, _≤_};
 ghost use lib.ListN.{length};
 
@@ -55,16 +55,4 @@ fn put_name(out: &mut [u8], folder: &[u8], file: &[u8]) -> usize
 {
     let n = put_bytes(out, 0, folder);
     put_bytes(out, n, file)
-}
-
-fn put_bytes(out: &mut [u8], at: usize, text: &[u8]) -> usize
-    requires { ⌜ at + length (now text) ≤ length (now out) ⌝ }
-    ensures { λ r. ⌜ r ≡ at + length (now (text .entry)) ⌝ }
-{
-    let mut i = 0;
-    while i < text.len() {
-        out[at + i] = text[i];
-        i += 1;
-    }
-    at + i
 }

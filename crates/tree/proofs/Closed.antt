@@ -47,13 +47,16 @@ pub closer-word : (n k : ℕ) → Closed k ≡ statusOf n → n ≡ suc k
 closer-word zero k e = cc
 closer-word (suc n) k e = ap suc cc
 
--- ---- the node that closed a vertex
+-- ---- the node that closed a vertex; nodes and queue words are within the words
 
 pub closer-used : {l k : ℕ} {t : List ℕ} (v : ℕ) → Formed l t → HasVertex l t v → closedAt (treeOf l t .closed) v ≡ suc k → k < getD t 1 0
 closer-used {l} {k} {t} v f h e = omega (arith, e, closed-word l t v (closedWordsAt l) h refl, f .closers v h)
 
 pub node-fits : {l k : ℕ} {t : List ℕ} → Formed l t → k < getD t 1 0 → nodeAt k + 4 ≤ length t
 node-fits f h = omega (arith, f .used, f .fits)
+
+pub queue-fits : {l : ℕ} {t : List ℕ} → Formed l t → queueAt l + getD t 2 0 ≤ length t
+queue-fits f = omega (arith, f .queued, f .used, f .fits)
 
 pub node-cost : (m l : ℕ) (t : List ℕ) (k : ℕ) → k < getD t 1 0 → evaluation (treeIn m l t .nodes) k ≡ evaluationIn t k
 node-cost m l t k h = ap (λ (x : Node). x .cost) (tree-node m l t k h)

@@ -14,6 +14,7 @@ use Rattle.layout.proofs.Trees.{nodeIn, tree-nodes, tree-node, tree-closed}
 use Rattle.tree.specs.Tree.{treeOf, Formed, Pops}
 use Rattle.tree.proofs.Form.{waiting-length}
 use Rattle.tree.proofs.Waiting.{waits, waiting-mem, waiting-has, waits-node}
+use Rattle.tree.proofs.Closed.{queue-fits}
 
 module _ (l : ℕ) (s t : List ℕ) (f : Formed l s) (g : Formed l t) (len : length s ≡ length t) where
   at : (i j : ℕ) → i ≡ j → getD s j 0 ≡ getD t j 0 → getD s i 0 ≡ getD t i 0
@@ -69,7 +70,7 @@ module _ (l : ℕ) (s t : List ℕ) (f : Formed l s) (g : Formed l t) (len : len
 
   module _ (same : treeOf l s .waiting ≡ treeOf l t .waiting) where
     waiting : (u : List ℕ) → Formed l u → length (treeOf l u .waiting) ≡ getD u 2 0
-    waiting u h = waiting-length l u (omega (arith, h .queued, h .used, h .fits)) (h .nodes) (h .once)
+    waiting u h = waiting-length l u (queue-fits h) (h .nodes) (h .once)
 
     queued-kept : getD s 2 0 ≡ getD t 2 0
     queued-kept = sym (waiting s f) ∙ ap (λ (x : List ℕ). length x) same ∙ waiting t g
@@ -81,12 +82,9 @@ module _ (l : ℕ) (s t : List ℕ) (f : Formed l s) (g : Formed l t) (len : len
       | no n ↦ elim (decLt 0 (waits l t x)) [ yes h ↦ absurd (n (moved t s g f (sym same) h)) | no k ↦ omega arith ]
     ]
       where
-        fits : (u : List ℕ) → Formed l u → queueAt l + getD u 2 0 ≤ length u
-        fits u h = omega (arith, h .queued, h .used, h .fits)
-
         moved : (u v : List ℕ) → Formed l u → Formed l v → treeOf l u .waiting ≡ treeOf l v .waiting → 0 < waits l u x → 0 < waits l v x
         moved u v a b e h =
-            waiting-mem l v (fits v b) x (subst (λ (q : List ℕ). List·Memᴰ x q) e (waiting-has l u (fits u a) x (waits-node a x h) h))
+            waiting-mem l v (queue-fits b) x (subst (λ (q : List ℕ). List·Memᴰ x q) e (waiting-has l u (queue-fits a) x (waits-node a x h) h))
 
   -- ---- all of it
 

@@ -24,6 +24,7 @@ use Rattle.queue.specs.Queue.{evaluationIn, key, rank, times, Heap}
 use Rattle.queue.proofs.Keys.{key-less, key-more, key-tie}
 use Rattle.tree.specs.Tree.{treeOf, Formed}
 use Rattle.tree.proofs.Parts.{zeros-at, at-zeros, below-at, at-below, times-once, once-distinct}
+use Rattle.tree.proofs.Closed.{queue-fits}
 
 -- ---- the queue's order
 
@@ -143,7 +144,7 @@ formed-at l t edges fits vertices closers e =
 pub at-formed : (l : ℕ) (t : List ℕ) → Formed l t → formedb l t ≡ true
 unfolding formedb
 at-formed l t f =
-    let fit : queueAt l + getD t 2 0 ≤ length t = omega (arith, f .queued, f .used, f .fits) in
+    let fit : queueAt l + getD t 2 0 ≤ length t = queue-fits f in
     true-given (formTests l t)
     (le-leb _ _ (f .used))
     (le-leb (getD t 2 0) (1 + l) (omega (arith, f .queued, f .used)))

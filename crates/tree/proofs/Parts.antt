@@ -46,7 +46,7 @@ module _ (t : List ℕ) (a e : ℕ) where
 
 -- ---- words below a number
 
-below-in : (u : ℕ) (xs : List ℕ) → allBelow u xs ≡ true → (i : ℕ) → i < length xs → getD xs i 0 < u
+pub below-in : (u : ℕ) (xs : List ℕ) → allBelow u xs ≡ true → (i : ℕ) → i < length xs → getD xs i 0 < u
 below-in u [] e i h = absurd (omega arith)
 below-in u (x ∷ xs) e zero h = ltb-true x u (and-true (ltb x u) (allBelow u xs) e .0)
 below-in u (x ∷ xs) e (suc i) h = below-in u xs (and-true (ltb x u) (allBelow u xs) e .1) i (omega arith)

@@ -7,7 +7,7 @@ use mathlib.Core.List.{List, [], _∷_, List·Memᴰ, List·Memᴰ·head, List·
 use Prim.Native.Nat.{ℕ, _+_, _<_, _≤_}
 use native.Mathlib.Omega.{arith}
 use native.Mathlib.Decide.{ℕ-discrete, decLt}
-use lib.ListN.{length, getD, drop}
+use lib.ListN.{getD, drop}
 use Rattle.model.specs.Tree.{Node, evaluation, least, leastOf, popped}
 use Rattle.model.proofs.Lists.{Before, before-one, Least, least-is}
 use Rattle.layout.specs.Layout.{nodesAt, queueAt, closedAt}
@@ -19,13 +19,13 @@ use Rattle.queue.proofs.Times.{one-same, times-place, place-times}
 use Rattle.tree.specs.Tree.{treeOf, Formed, Pops, PopIs}
 use Rattle.tree.proofs.Same.{nodes-same, closed-same}
 use Rattle.tree.proofs.Waiting.{waits, waiting-mem, waiting-has, waiting-popped, waits-node}
-use Rattle.tree.proofs.Closed.{node-cost}
+use Rattle.tree.proofs.Closed.{node-cost, queue-fits}
 
 -- what the queue asks for
 formed-queue : {l : ℕ} {t : List ℕ} → Formed l t → CanPop t (queueAt l)
 formed-queue f = record {
   queue = record {
-    room = record { fits = omega arith; nodes = λ i h. omega (arith, f .nodes i h) };
+    room = record { fits = queue-fits f; nodes = λ i h. omega (arith, f .nodes i h) };
     heap = f .heap;
   };
   behind = omega arith;
@@ -54,9 +54,17 @@ key-before l t a b f ha hb h = elim (decLt (evaluationIn t a) (evaluationIn t b)
     cost : (k : ℕ) → k < getD t 1 0 → evaluation (treeOf l t .nodes) k ≡ evaluationIn t k
     cost = node-cost _ l t
 
-least-none : (l : ℕ) (s : List ℕ) → Formed l s → getD s 2 0 ≡ 0 → least (treeOf l s .nodes) (treeOf l s .waiting) ≡ none
+-- a waiting node with no lesser key than its own among those that wait is the least
+pub least-key : {l : ℕ} {t : List ℕ} → Formed l t → (k : ℕ) → 0 < waits l t k → ((x : ℕ) → 0 < waits l t x → key t k ≤ key t x)
+    → least (treeOf l t .nodes) (treeOf l t .waiting) ≡ some k
+least-key {l} {t} f k w h =
+    least-one (treeOf l t .nodes) (treeOf l t .waiting) k (waiting-has l t (queue-fits f) k (waits-node f k w) w)
+    (λ j m. let v = waiting-mem l t (queue-fits f) j m in key-before l t k j f (waits-node f k w) (waits-node f j v) (h j v))
+
+-- with no queue word there is none
+pub least-none : (l : ℕ) (s : List ℕ) → Formed l s → getD s 2 0 ≡ 0 → least (treeOf l s .nodes) (treeOf l s .waiting) ≡ none
 unfolding least
-least-none l s f e = go (treeOf l s .waiting) (waiting-mem l s (formed-queue f .queue .room .fits))
+least-none l s f e = go (treeOf l s .waiting) (waiting-mem l s (queue-fits f))
   where
     go : (q : List ℕ) → ((x : ℕ) → List·Memᴰ x q → 0 < waits l s x) → least (treeOf l s .nodes) q ≡ none
     go [] h = refl
@@ -65,9 +73,6 @@ least-none l s f e = go (treeOf l s .waiting) (waiting-mem l s (formed-queue f .
 -- ---- node k is taken, and m words are left in the queue
 
 module _ {l k m : ℕ} {s t : List ℕ} (f : Formed l s) (p : Taken s t (queueAt l) k m) where
-  fits : queueAt l + getD s 2 0 ≤ length s
-  fits = formed-queue f .queue .room .fits
-
   used : getD t 1 0 ≡ getD s 1 0
   used = p .below 1 (omega arith) (omega arith)
 
@@ -82,9 +87,7 @@ module _ {l k m : ℕ} {s t : List ℕ} (f : Formed l s) (p : Taken s t (queueAt
   first-least x h = let i = times-place s (queueAt l) (getD s 2 0) x h in rw (i .2) at (p .least (i .0) (omega (arith, i .1)))
 
   taken-first : least (treeOf l s .nodes) (treeOf l s .waiting) ≡ some k
-  taken-first =
-      least-one (treeOf l s .nodes) (treeOf l s .waiting) k (waiting-has l s fits k (waits-node f k waits-first) waits-first)
-      (λ j h. let w = waiting-mem l s fits j h in key-before l s k j f (waits-node f k waits-first) (waits-node f j w) (first-least j w))
+  taken-first = least-key f k waits-first first-least
 
   taken-formed : Formed l t
   taken-formed = record {
@@ -109,7 +112,7 @@ module _ {l k m : ℕ} {s t : List ℕ} (f : Formed l s) (p : Taken s t (queueAt
   taken-tree = λ i. record {
     start = p .below 0 (omega arith) (omega arith) i;
     nodes = same-nodes i;
-    waiting = waiting-popped l s t fits (p .queue .room .fits) k used counts (f .once k) i;
+    waiting = waiting-popped l s t (queue-fits f) (p .queue .room .fits) k used counts (f .once k) i;
     closed = closed-same l s t (p .len) (λ j h. p .above j (omega arith)) i;
   }
     where

@@ -17,7 +17,7 @@ use Rattle.model.specs.declared.Search.{Search}
 use Rattle.model.specs.Graph.{Domain, Accepted}
 use Rattle.model.specs.Tree.{Tree, Node}
 use Rattle.model.specs.Sound.{Sound, tree}
-use Rattle.model.specs.Search.{entry, goals, boundOf, bound, hold, bestAfter, exhaustedUnless, withTurn, Turn, turn, recorded, Walk, round}
+use Rattle.model.specs.Search.{entry, goals, boundOf, bound, hold, bestAfter, exhaustedUnless, withTurn, Turn, turn, Walk, round}
 use Rattle.model.specs.Calls.{Cache, withTrees}
 use Rattle.model.proofs.Keeps.{turn-keeps}
 use Rattle.model.proofs.RefinesRead.{find-in}
