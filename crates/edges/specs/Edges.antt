@@ -1,4 +1,4 @@
--- The edge at a place of the edge numbers, and the place past it.
+-- "a struct with a reference to the link words, place and end": the edge at a place of the edge numbers, and the place past it.
 -- Assumes nothing.
 use mathlib.Core.Bool.{Bool, true, false}
 use mathlib.Core.List.{List}

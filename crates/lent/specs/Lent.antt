@@ -1,4 +1,4 @@
--- A step's answer without the record, and the two put together.
+-- "copies it out, calls the by-value step and stores the result": a step's answer without the record, and the two put together.
 -- Assumes nothing.
 use Rattle.model.specs.declared.Search.{Search}
 use Rattle.model.specs.declared.Stepped.{Stepped}

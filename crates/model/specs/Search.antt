@@ -74,7 +74,8 @@ withGoal s v =
       exhausted = s .exhausted;
     }
 
--- the turn of entry i: the entry e that it left, the best, and the finished mark
+-- "Methods on the search struct record finds, remembered counts and the finished mark, returning the new search.": the turn of entry i, with
+-- the entry e that it left, the best, and the mark
 abbrev pub withTurn : Search → ℕ → TreeMemory → BestSolution → Bool → Search
 withTurn s i e best x =
     record {
@@ -198,6 +199,7 @@ abbrev pub bestAfter : Domain → List Node → CostBound → Solution → BestS
 bestAfter d ns b h old i Unsolved = old
 bestAfter d ns b h old i (At n) = bestIf (dearer d ns n h) (cheaper (solutionCost d ns n) b) old i n
 
+-- "keeps the search unfinished"
 abbrev pub exhaustedUnless : Bool → Bool → Bool
 exhaustedUnless true x = false
 exhaustedUnless false x = x

@@ -32,7 +32,7 @@ use Rattle.turn.specs.declared.Turned.{Turned}
 use Rattle.turn.specs.declared.Outcome.{Outcome}
 use Rattle.turn.specs.declared.Found.{Found}
 
--- ---- the turns of all entries
+-- ---- "Otherwise, for each entry in order"
 
 pub record CanStep (ws : List ℕ) (s : Search) : Type 0 where
   pub sound : SoundWords ws
@@ -85,7 +85,7 @@ pub record Turns (ws : List ℕ) (i : ℕ) (u : Turn) (r : Outcome) (left : List
   pub sound : SoundWords left
   pub outside : Outside (getD ws 1 0) (getD ws 2 0) i ws left
 
--- ---- 1. the bound and the lookup
+-- ---- 1. "The bound is the best total before this entry's turn"; "the cheapest closed wanted motif, first in the list on ties, is the find"
 
 abbrev pub bestEntry : BestSolution → ℕ
 bestEntry NoBest = 0
