@@ -8,14 +8,14 @@ use mathlib.Core.Option.{Option, none, some}
 use Prim.Native.Nat.{ℕ, zero, suc, _+_, _-_, _*_}
 use lib.ListN.{length, replicate, take}
 use Rattle.model.specs.declared.BestSolution.the-variants.{NoBest}
-use Rattle.model.specs.declared.Search.{Search}
 use Rattle.model.specs.Answers.{Reply, answered, refused, Status, waiting, solved, noPath}
 use Rattle.model.specs.Graph.{Edge, Graph, Direction, forward, backward, absent, domain, edgeNumbers}
 use Rattle.model.specs.Tree.{Tree}
 use Rattle.model.specs.Path.{path, words}
 use Rattle.model.specs.Sound.{soundTreesb}
 use Rattle.model.specs.Search.{blank, entryOf}
-use Rattle.model.specs.Calls.{Cache, opened, withTrees, firstFault, initializeFaults, initialize, step, retrace}
+use Rattle.model.specs.Calls.{Cache, opened, withTrees, firstFault, initializeFaults, initialize, retrace}
+use Rattle.model.specs.Solve.{isWaiting, AfterSteps, solve, maxSteps}
 use Rattle.model.specs.Demands.{waitLimit}
 use Rattle.model.specs.Reference as reference
 
@@ -29,12 +29,6 @@ pub record Told : Type 0 where
   pub tickets : ℕ
   pub path : List ℕ
 
-abbrev pub isWaiting : Reply Status → Bool
-isWaiting (answered waiting) = true
-isWaiting (answered (solved k n)) = false
-isWaiting (answered noPath) = false
-isWaiting (refused n line) = false
-
 -- the words written, without those past them
 abbrev pub shownWords : List ℕ → Reply ℕ → List ℕ
 shownWords p (answered n) = take (1 + 2 * n) p
@@ -44,28 +38,23 @@ shownWords p (refused n line) = []
 abbrev pub slice : List ℕ
 slice = replicate 64 7
 
--- steps with a falling count, while the reply is waiting; w waits and k tickets so far
-unfoldable pub drive : ℕ → ℕ → ℕ → Cache → Search → Told
-unfolding step retrace path words
-drive zero w k c s = record { cache = c; reply = answered waiting; waits = w; tickets = k; path = [] }
-drive (suc f) w k c s =
-    let r = step c s in
-    let shown = retrace (r .cache) (r .search) slice in
-    elim (isWaiting (r .reply)) [
-      | true ↦ drive f (suc w) (k + r .tickets) (r .cache) (r .search)
-      | false ↦ record { cache = r .cache; reply = r .reply; waits = w; tickets = k + r .tickets; path = shownWords (shown .path) (shown .reply) }
-    ]
+-- what the steps came to, and the path shown then
+unfoldable pub told : AfterSteps → Told
+unfolding retrace path words
+told d =
+    let shown = retrace (d .cache) (d .search) slice in
+    record { cache = d .cache; reply = d .reply; waits = d .waits; tickets = d .tickets; path = shownWords (shown .path) (shown .reply) }
 
 -- refused n: nothing is changed
 abbrev pub turnedAway : Cache → ℕ → Told
 turnedAway c n = record { cache = c; reply = refused n 0; waits = 0; tickets = 0; path = [] }
 
 unfoldable pub order : Cache → List ℕ → List ℕ → Told
-unfolding drive initialize
+unfolding told solve initialize
 order c ss gs =
     let r = initialize c ss gs in
     elim (r .reply) [
-      | answered u ↦ drive 8 0 0 (r .cache) (r .search)
+      | answered u ↦ told (solve maxSteps (r .cache) (r .search))
       | refused n line ↦ record { cache = r .cache; reply = refused n line; waits = 0; tickets = 0; path = [] }
     ]
 

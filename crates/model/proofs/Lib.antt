@@ -1,5 +1,6 @@
 pub mod Bools
 pub mod Replies
+pub mod Solve
 pub mod Lists
 pub mod Filled
 pub mod Paths

@@ -7,6 +7,7 @@ pub mod Sound
 pub mod Search
 pub mod Valid
 pub mod Calls
+pub mod Solve
 pub mod Demands
 pub mod SimpleGraph
 pub mod Reference
