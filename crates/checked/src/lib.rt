@@ -10,11 +10,12 @@ use model::Solution;
 use model::StepAnswer;
 use model::Stepped;
 ghost use mathlib.Core.Path.{_≡_};
-ghost use Rattle.model.specs.Answers.{status};
+ghost use Rattle.model.specs.Answers.{status, stepReply};
 ghost use Rattle.model.specs.Tree.{node as Tree·node};
 ghost use Rattle.model.specs.Sound.{tree};
 ghost use Rattle.model.specs.Path.{movesOf};
-ghost use Rattle.model.specs.Calls.{finalStatus};
+ghost use Rattle.model.specs.Calls.{finalStatus, step as Model·step};
+ghost use Rattle.model.specs.Solve.{isWaiting};
 ghost use Rattle.layout.specs.Read.{readCache};
 ghost use Rattle.sound.specs.Facts.{SoundWords};
 ghost use Rattle.memory.specs.Memory.{HasNode};
@@ -25,13 +26,10 @@ pub fn step(words: &mut [u32], search: Search) -> Stepped
     requires { ⌜ SoundWords (now words) ⌝ }
     ensures { λ r. ⌜ Advances (now (words .entry)) search r (now (words .exit)) ⌝ }
 {
-    if !is_valid(words, search) {
-        return not_stepped(search, Refusal::InvalidSearch);
-    }
-    if search.exhausted {
-        let status = final_status(words, search);
+    let answer = standing(words, search);
+    if !is_waiting(answer) {
         return Stepped {
-            answer: StepAnswer::Status(status),
+            answer,
             tickets: 0,
             search,
         };
@@ -39,9 +37,43 @@ pub fn step(words: &mut [u32], search: Search) -> Stepped
     let turned = turn::step_trees(words, search);
     let next = turned.search;
     Stepped {
-        answer: StepAnswer::Status(SearchStatus::Incomplete),
+        answer,
         tickets: turned.tickets,
         search: next,
+    }
+}
+
+// What a step of the search answers. A refused or a finished one does no more.
+pub fn standing(words: &[u32], search: Search) -> StepAnswer
+    requires { ⌜ SoundWords (now words) ⌝ }
+    ensures { λ r. ⌜ stepReply r ≡ Model·step (readCache (now (words .entry))) search .reply ⌝ }
+{
+    if !is_valid(words, search) {
+        return StepAnswer::Refused {
+            refusal: Refusal::InvalidSearch,
+            line: 0,
+        };
+    }
+    if search.exhausted {
+        let status = final_status(words, search);
+        return StepAnswer::Status(status);
+    }
+    StepAnswer::Status(SearchStatus::Incomplete)
+}
+
+pub fn is_waiting(answer: StepAnswer) -> bool
+    ensures { λ r. ⌜ r ≡ isWaiting (stepReply answer) ⌝ }
+{
+    let StepAnswer::Status(status) = answer else {
+        return false;
+    };
+    match status {
+        SearchStatus::Incomplete => true,
+        SearchStatus::Solved {
+            total_cost: _,
+            moves: _,
+        } => false,
+        SearchStatus::Impossible => false,
     }
 }
 

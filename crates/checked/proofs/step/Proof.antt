@@ -1,48 +1,34 @@
 -- `step` meets its contract.
 -- Assumes nothing.
-use mathlib.Core.Path.{_≡_, sym, _∙_}
+use mathlib.Core.Path.{_≡_, sym, ap, _∙_}
 use mathlib.Core.Bool.{true}
 use borrow.Author.Needs.{needs}
 use borrow.Author.Tests.{not-true, not-false}
-use Rattle.model.specs.Valid.{valid}
-use Rattle.layout.specs.Read.{readCache}
-use Rattle.memory.proofs.Fits.{valid-fits}
-use Rattle.turn.specs.Turn.{CanStep}
-use Rattle.checked.proofs.Advanced.{not-valid, finished, walked}
+use Rattle.model.specs.Answers.{stepReply}
+use Rattle.model.specs.Solve.{isWaiting}
+use Rattle.checked.proofs.Advanced.{rests, walked, can-step}
 use Rattle.checked.proofs.step.Statement.{statement}
 use Rattle.checked.proofs.step.Tie as tie
 
--- where the test was passed
-
-fine : (c : tie.Else1)
-    → let a = c .before .before .before .before .args in
-    valid (readCache (a .words .now) .domain) (readCache (a .words .now) .trees) (a .search) ≡ true
-fine c = sym (c .before .is-valid .ensures) ∙ not-false _ (c .if1 .left)
-
-can-step : (c : tie.Else1) → let a = c .before .before .before .before .args in CanStep (a .words .now) (a .search)
-can-step c =
-    let ok = c .before .before .before .before .pre in
-    record { sound = ok; fits = valid-fits _ _ ok (fine c) }
+-- where the search waits
+waits : (c : tie.Else1) → isWaiting (stepReply (c .before .before .standing .result)) ≡ true
+waits c = sym (c .before .is-waiting .ensures) ∙ not-false _ (c .if1 .left)
 
 returns : tie.Need-returns
 returns c =
-    let a = c .before .before .before .before .before in
-    rw (c .not-stepped .ensures) (not-valid _ _ (a .pre) (sym (c .before .before .is-valid .ensures) ∙ not-true _ (c .before .if1 .taken)))
+    rests _ _ (c .before .before .before .before .before .pre) _ (c .before .before .standing .ensures)
+    (sym (c .before .is-waiting .ensures) ∙ not-true _ (c .if1 .taken))
 
-final-status-requires : tie.Need-final-status-requires
-final-status-requires c κs = can-step (c .before .before)
+step-trees-requires : tie.Need-step-trees-requires
+step-trees-requires c κs =
+    let e = c .before in
+    can-step _ _ (e .before .before .before .before .before .pre) (ap isWaiting (sym (e .before .before .standing .ensures)) ∙ waits e)
 
 returns-2 : tie.Need-returns-2
 returns-2 c =
-    let a = c .before .before .before in
-    finished _ _ (can-step a .sound) (fine a) (c .before .before .if2 .taken) _ (c .final-status .ensures)
-
-returns-3 : tie.Need-returns-3
-returns-3 c =
     let t = c .before .before .before in
-    let a = t .before .before .before in
-    walked _ _ (can-step a .sound) (fine a) (t .before .before .if2 .left) (t .step-trees .result) (t .step-trees .last .0)
-    (t .step-trees .ensures)
+    let e = t .before .before in
+    walked _ _ _ (e .before .before .standing .ensures) (waits e) (t .step-trees .result) (t .step-trees .last .0) (t .step-trees .ensures)
 
 pub step-spec : {M : Type 1} → statement M
 step-spec =
@@ -52,9 +38,6 @@ step-spec =
     (λ c κs. search needs)
     (λ c. search needs)
     returns
-    final-status-requires
+    step-trees-requires
     (λ c. search needs)
-    returns-2
-    (λ c κs. can-step (c .before .before))
-    (λ c. search needs)
-    returns-3)
+    returns-2)
