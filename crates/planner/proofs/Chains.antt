@@ -2,6 +2,7 @@
 -- Assumes nothing.
 use mathlib.Core.Path.{_≡_, refl, sym, ap, _∙_, subst}
 use mathlib.Core.Bool.{Bool}
+use mathlib.Core.Logic.{inl, inr}
 use mathlib.Core.List.{List, [], _∷_, _++_, append-assoc, append-nil}
 use Prim.Native.Nat.{ℕ, zero, suc}
 use native.Mathlib.Numerals.{add-one}
@@ -9,10 +10,13 @@ use native.Mathlib.Omega.{arith}
 use lib.ListN.{length, replicate, length-append, length-replicate}
 use Rattle.model.specs.declared.Search.{Search}
 use Rattle.model.specs.Answers.{answered, waiting, stepReply}
+use Rattle.model.specs.Solve.{isWaiting}
+use Rattle.model.proofs.Solve.{is-waiting}
 use Rattle.model.specs.Demands.{Call, stepping as steppingCall, Act, ownStep, Event, stepped}
 use Rattle.dijkstra.specs.Demands.{MadeAll, none-made, and-then, made-step, Chain, own-step}
-use Rattle.planner.specs.Solve.{isWaiting, Waited, at-first, once-more, all-wait, one-answers, lastIf, InChains, BetweenCalls}
-use Rattle.planner.proofs.Waits.{is-waiting}
+use Rattle.planner.specs.Solve.{Waited, at-first, once-more, all-wait, one-ends, lastIf, InChains, BetweenCalls}
+use Rattle.planner.proofs.Last.{last-cases}
+use Rattle.planner.proofs.Waits.{rested}
 
 -- ---- in the search's chain
 
@@ -39,18 +43,33 @@ module _ {ws : List ℕ} {s : Search} where
 own-steps : (es : List Event) (n : ℕ) → length es ≡ n → (acts : List Act) → replicate n ownStep ++ acts ≡ replicate (length es) ownStep ++ acts
 own-steps es n e acts = ap (λ (k : ℕ). replicate k ownStep ++ acts) (sym e)
 
-pub in-chains : InChains
-in-chains ws s n r left acts es (all-wait v) k =
-    let all : waits n ++ [] ≡ waits n = append-nil (waits n) in
-    chain-as (own-steps (waits n ++ []) n (ap length all ∙ length-replicate n (stepped (answered waiting))) acts)
+-- w steps that waited are a chain's own
+all-waited : (w : ℕ) {ws left : List ℕ} {s x : Search} {t : ℕ} → Waited ws s w t left x → {acts : List Act} {es : List Event} → Chain left x acts es
+    → (last : List Event) → last ≡ [] → Chain ws s (replicate (length (waits w ++ last)) ownStep ++ acts) ((waits w ++ last) ++ es)
+all-waited w v {acts} {es} k last none =
+    let all : waits w ++ last ≡ waits w = ap (λ (l : List Event). waits w ++ l) none ∙ append-nil (waits w) in
+    chain-as (own-steps (waits w ++ last) w (ap length all ∙ length-replicate w (stepped (answered waiting))) acts)
     (ap (λ (l : List Event). l ++ es) (sym all)) (waits-chain v k)
-in-chains ws s n r left acts es (one-answers {w = w} q below v p e) k =
-    let last : Event = stepped (stepReply (q .answer)) in
-    let all : waits w ++ lastIf (isWaiting (stepReply (q .answer))) last ≡ waits w ++ (last ∷ []) = ap (λ (b : Bool). waits w ++ lastIf b last) e in
-    let size : length (waits w ++ (last ∷ [])) ≡ suc w =
-    omega (arith, length-append (waits w) (last ∷ []), length-replicate w (stepped (answered waiting))) in
-    chain-as (one-more w ownStep acts ∙ own-steps (waits w ++ lastIf (isWaiting (stepReply (q .answer))) last) (suc w) (ap length all ∙ size) acts)
-    (sym (append-assoc (waits w) (last ∷ []) es) ∙ ap (λ (l : List Event). l ++ es) (sym all)) (waits-chain v (own-step q p k))
+
+pub in-chains : InChains
+in-chains ws s n r left acts es (all-wait v z) k = all-waited n v k [] refl
+in-chains ws s n r left acts es (one-ends {w = w} {mid = mid} {x = x} q a below v p e told) k = elim (last-cases w (stepReply (q .answer))) [
+  | inl own ↦
+      let last : Event = stepped (stepReply a) in
+      let same : last ≡ stepped (stepReply (q .answer)) = ap stepped (told ∙ own) in
+      let all : waits w ++ lastIf (isWaiting (stepReply a)) last ≡ waits w ++ (last ∷ []) =
+      ap (λ (b : Bool). waits w ++ lastIf b last) (ap isWaiting (told ∙ own) ∙ e) in
+      let size : length (waits w ++ (last ∷ [])) ≡ suc w =
+      omega (arith, length-append (waits w) (last ∷ []), length-replicate w (stepped (answered waiting))) in
+      chain-as (one-more w ownStep acts ∙ own-steps (waits w ++ lastIf (isWaiting (stepReply a)) last) (suc w) (ap length all ∙ size) acts)
+      (ap (λ (x : Event). waits w ++ (x ∷ es)) (sym same) ∙ sym (append-assoc (waits w) (last ∷ []) es) ∙ ap (λ (l : List Event). l ++ es) (sym all))
+      (waits-chain v (own-step q p k))
+  | inr kept ↦
+      let h = rested mid x q left p e in
+      let back : Chain mid x acts es = subst (λ (y : Search). Chain mid y acts es) (h .search) (subst (λ (l : List ℕ). Chain l (q .search) acts es) (h .words) k) in
+      all-waited w v back (lastIf (isWaiting (stepReply a)) (stepped (stepReply a)))
+      (ap (λ (b : Bool). lastIf b (stepped (stepReply a))) (ap isWaiting (told ∙ kept .1)))
+]
 
 -- ---- between the calls of others
 
@@ -60,5 +79,5 @@ waits-made at-first xs m = (xs, m)
 waits-made (once-more {x = x} r v p e) xs m = waits-made v (steppingCall x ∷ xs) (and-then (made-step x r p) m)
 
 pub between-calls : BetweenCalls
-between-calls ws s n r left (all-wait v) = waits-made v [] none-made
-between-calls ws s n r left (one-answers {x = x} q below v p e) = waits-made v (steppingCall x ∷ []) (and-then (made-step x q p) none-made)
+between-calls ws s n r left (all-wait v z) = waits-made v [] none-made
+between-calls ws s n r left (one-ends {x = x} q a below v p e told) = waits-made v (steppingCall x ∷ []) (and-then (made-step x q p) none-made)

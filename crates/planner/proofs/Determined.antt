@@ -9,25 +9,26 @@ use lib.ListN.{length, getD}
 use Rattle.model.specs.declared.Search.{Search}
 use Rattle.model.specs.Answers.{answered, waiting}
 use Rattle.model.specs.Calls.{Cache, AfterStep, step}
+use Rattle.model.specs.Solve.{isWaiting, AfterSteps, solve}
 use Rattle.model.proofs.Replies.{step-told}
+use Rattle.model.proofs.Solve.{is-waiting, steps-end, solve-none, solve-some}
 use Rattle.layout.specs.Read.{readCache}
 use Rattle.layout.specs.Sound.{soundWordsb}
 use Rattle.dijkstra.specs.Demands.{QueueWord}
 use Rattle.dijkstra.proofs.Histories.{step-is}
 use Rattle.dijkstra.proofs.Determined.{same-word, apart-word, entries-in-use}
 use Rattle.planner.specs.declared.StepsTaken.{StepsTaken}
-use Rattle.planner.specs.Solve.{isWaiting, AfterSteps, stepsFrom, solveIf, solveWords, LeavesAfter, Determined}
-use Rattle.planner.proofs.Waits.{steps-none, steps-answer, is-waiting}
+use Rattle.planner.specs.Solve.{solveIf, solveWords, LeavesAfter, Determined}
 
 -- ---- some step waited: so did the first, on sound words
 
-first-waits : (n : ℕ) (c : Cache) (s : Search) (k : ℕ) → stepsFrom n c s 0 0 .waits ≡ suc k → step c s .reply ≡ answered waiting
-first-waits zero c s k e = absurd (omega (arith, e, ap (λ (y : AfterSteps). y .waits) (steps-none c s 0 0)))
+first-waits : (n : ℕ) (c : Cache) (s : Search) (k : ℕ) → solve n c s .waits ≡ suc k → step c s .reply ≡ answered waiting
+first-waits zero c s k e = absurd (omega (arith, e, ap (λ (y : AfterSteps). y .waits) (solve-none c s)))
 first-waits (suc n) c s k e = go (isWaiting (step c s .reply)) refl
   where
     go : (b : Bool) → isWaiting (step c s .reply) ≡ b → step c s .reply ≡ answered waiting
     go true w = is-waiting (step c s .reply) w
-    go false w = absurd (omega (arith, e, ap (λ (y : AfterSteps). y .waits) (steps-answer c s 0 0 n w)))
+    go false w = absurd (omega (arith, e, ap (λ (y : AfterSteps). y .waits) (solve-some n c s ∙ steps-end c s 0 0 n w)))
 
 sound-if : (b : Bool) (n : ℕ) (c : Cache) (s : Search) (k : ℕ) → solveIf b n c s .waits ≡ suc k → b ≡ true
 sound-if true n c s k e = refl

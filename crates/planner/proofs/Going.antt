@@ -7,10 +7,12 @@ use Prim.Native.Nat.{ℕ, _+_, _*_, _<_, _≤_}
 use native.Mathlib.Omega.{arith}
 use lib.ListN.{length}
 use Rattle.model.specs.declared.SearchStatus.the-variants.{Incomplete}
+use Rattle.model.specs.declared.StepAnswer.{StepAnswer}
 use Rattle.model.specs.declared.StepAnswer.the-variants as stepping
 use Rattle.model.specs.declared.Search.{Search}
 use Rattle.model.specs.declared.Stepped.{Stepped}
 use Rattle.model.specs.Answers.{stepReply}
+use Rattle.model.specs.Solve.{isWaiting, lastReply}
 use Rattle.layout.specs.Read.{readCache}
 use Rattle.layout.specs.Sound.{soundWordsb}
 use Rattle.sound.specs.Facts.{SoundWords}
@@ -19,7 +21,7 @@ use Rattle.checked.specs.Step.{Advances}
 use Rattle.checked.proofs.Records.{step-few}
 use Rattle.dijkstra.specs.Calls.{Stepping}
 use Rattle.dijkstra.proofs.Stepped.{on-sound}
-use Rattle.planner.specs.Solve.{isWaiting, Waited, at-first, once-more, all-wait, one-answers, Solving}
+use Rattle.planner.specs.Solve.{Waited, at-first, once-more, all-wait, one-ends, Solving}
 use Rattle.planner.proofs.Waits.{Stays, waited-stays}
 use Rattle.planner.proofs.Solved.{called-solves}
 
@@ -27,11 +29,12 @@ use Rattle.planner.proofs.Solved.{called-solves}
 pub record Going (ws : List ℕ) (s : Search) (n : ℕ) (words : List ℕ) (next : Search) (w t : ℕ) : Type 0 where
   pub ok : soundWordsb ws ≡ true
   pub waited : Waited ws s w t words next
+  pub some : 0 < n
   pub within : w ≤ n
   pub few : t ≤ 640 * w
 
-pub going-first : (ws : List ℕ) (s : Search) (n : ℕ) → soundWordsb ws ≡ true → Going ws s n ws s 0 0
-going-first ws s n ok = record { ok = ok; waited = at-first; within = omega arith; few = omega arith }
+pub going-first : (ws : List ℕ) (s : Search) (n : ℕ) → soundWordsb ws ≡ true → 0 < n → Going ws s n ws s 0 0
+going-first ws s n ok some = record { ok = ok; waited = at-first; some = some; within = omega arith; few = omega arith }
 
 module _ {ws : List ℕ} {s : Search} {n : ℕ} {words : List ℕ} {next : Search} {w t : ℕ} (g : Going ws s n words next w t) where
   stays : Stays ws s w t words next
@@ -46,7 +49,7 @@ module _ {ws : List ℕ} {s : Search} {n : ℕ} {words : List ℕ} {next : Searc
   pub going-ends : n ≤ w → Solving ws s n (record { answer = stepping.Status Incomplete; waits = w; tickets = t; search = next }) words
   going-ends h =
       let e : n ≡ w = omega (arith, h, g .within) in
-      let all = called-solves (g .ok) (all-wait (g .waited)) in
+      let all = called-solves ws s (g .ok) (all-wait (g .waited) (λ none. absurd (omega (arith, g .some)))) in
       rw e all
 
   pub going-few : {r : Stepped} {left : List ℕ} → Advances words next r left → r .tickets ≤ 640
@@ -56,14 +59,15 @@ module _ {ws : List ℕ} {s : Search} {n : ℕ} {words : List ℕ} {next : Searc
     steps : Stepping words next r left
     steps = on-sound words next (stays .sound) r left a
 
-    pub going-answers : isWaiting (stepReply (r .answer)) ≡ false
-        → Solving ws s n (record { answer = r .answer; waits = w; tickets = t + r .tickets; search = r .search }) left
-    going-answers e = called-solves (g .ok) (one-answers r h (g .waited) steps e)
+    pub going-answers : isWaiting (stepReply (r .answer)) ≡ false → {a : StepAnswer} → stepReply a ≡ lastReply w (stepReply (r .answer))
+        → Solving ws s n (record { answer = a; waits = w; tickets = t + r .tickets; search = r .search }) left
+    going-answers e {a} told = called-solves ws s (g .ok) (one-ends r a (omega arith) (g .waited) steps e told)
 
     pub going-more : isWaiting (stepReply (r .answer)) ≡ true → Going ws s n left (r .search) (w + 1) (t + r .tickets)
     going-more e = record {
       ok = g .ok;
       waited = once-more r (g .waited) steps e;
+      some = g .some;
       within = omega arith;
       few = omega (arith, g .few, going-few a);
     }

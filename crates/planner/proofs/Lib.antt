@@ -1,7 +1,9 @@
 -- Laws that belong to no one function.
+pub mod Last
 pub mod Waits
 pub mod Solved
 pub mod Going
 pub mod Chains
 pub mod Determined
+pub mod Demand1
 pub mod Examples

@@ -13,6 +13,8 @@ use Rattle.model.specs.declared.Stepped.{Stepped}
 use Rattle.model.specs.Answers.{Reply, answered, refused, Status, waiting, solved, noPath, stepReply}
 use Rattle.model.specs.Search.{entry}
 use Rattle.model.specs.Calls.{Cache, AfterStep, step}
+use Rattle.model.specs.Solve.{isWaiting, stepsFrom}
+use Rattle.model.proofs.Solve.{is-waiting, steps-wait, Rests, step-rests}
 use Rattle.layout.specs.Read.{readCache}
 use Rattle.layout.specs.Sound.{soundWordsb}
 use Rattle.turn.specs.Turn.{InSlot, Apart}
@@ -20,37 +22,47 @@ use Rattle.checked.specs.Step.{Leaves}
 use Rattle.checked.proofs.Records.{step-slots, step-count}
 use Rattle.dijkstra.specs.Calls.{stepSoundIf, stepWords, Stepping}
 use Rattle.dijkstra.proofs.Histories.{step-is}
-use Rattle.planner.specs.Solve.{isWaiting, AfterSteps, stepsIf, stepsFrom, Waited, at-first, once-more, LeavesAfter}
+use Rattle.planner.specs.Solve.{Waited, at-first, once-more, LeavesAfter}
 
--- ---- the definition, unfolded once
+-- ---- a step that does not wait leaves words and record
 
-module _ (c : Cache) (s : Search) (w t : ℕ) where
-  pub steps-none : stepsFrom 0 c s w t ≡ record { cache = c; search = s; reply = answered waiting; waits = w; tickets = t }
-  unfolding stepsFrom
-  steps-none = refl
+pub record Rested (ws : List ℕ) (s : Search) (r : Stepped) (left : List ℕ) : Type 0 where
+  pub words : left ≡ ws
+  pub search : r .search ≡ s
+  pub tickets : r .tickets ≡ 0
 
-  abbrev more : ℕ → AfterSteps
-  more n = let r = step c s in stepsFrom n (r .cache) (r .search) (w + 1) (t + r .tickets)
+pub rested : (ws : List ℕ) (s : Search) (r : Stepped) (left : List ℕ) → Stepping ws s r left → isWaiting (stepReply (r .answer)) ≡ false → Rested ws s r left
+rested ws s r left p w =
+    let k = sound-if (soundWordsb ws) (ap isWaiting (sym (p .answer)) ∙ w) in
+    record {
+      words = stays-if (stepWords ws s .reply) (ap isWaiting (sym (p .answer)) ∙ w) (p .words);
+      search = p .search ∙ k .search;
+      tickets = p .tickets ∙ k .tickets;
+    }
+  where
+    c : Cache
+    c = readCache ws
 
-  steps-more : (n : ℕ) → let r = step c s in stepsFrom (suc n) c s w t ≡ stepsIf (isWaiting (r .reply)) r w (t + r .tickets) (more n)
-  unfolding stepsFrom
-  steps-more n = refl
+    sound-if : (b : Bool) → isWaiting (stepSoundIf b c s .reply) ≡ false → Rests c s (stepSoundIf b c s)
+    sound-if true e = step-rests c s e
+    sound-if false e = record { cache = refl; search = refl; tickets = refl }
 
-  pub steps-wait : (n : ℕ) → isWaiting (step c s .reply) ≡ true → stepsFrom (suc n) c s w t ≡ more n
-  steps-wait n e = let r = step c s in steps-more n ∙ ap (λ (b : Bool). stepsIf b r w (t + r .tickets) (more n)) e
+    stays-if : (x : Reply Status) → isWaiting x ≡ false → Leaves x ws s left → left ≡ ws
+    stays-if (answered waiting) e h = absurd (true≢false e)
+    stays-if (answered (solved k m)) e h = h
+    stays-if (answered noPath) e h = h
+    stays-if (refused n line) e h = h
 
-  pub steps-answer : (n : ℕ) → isWaiting (step c s .reply) ≡ false
-      → let r = step c s in
-      stepsFrom (suc n) c s w t ≡ record { cache = r .cache; search = r .search; reply = r .reply; waits = w; tickets = t + r .tickets }
-  steps-answer n e = let r = step c s in steps-more n ∙ ap (λ (b : Bool). stepsIf b r w (t + r .tickets) (more n)) e
+-- ---- no step waited
 
--- ---- replies
+pub record Unmoved (ws : List ℕ) (s : Search) (t : ℕ) (mid : List ℕ) (x : Search) : Type 0 where
+  pub tickets : t ≡ 0
+  pub words : mid ≡ ws
+  pub search : x ≡ s
 
-pub is-waiting : (r : Reply Status) → isWaiting r ≡ true → r ≡ answered waiting
-is-waiting (answered waiting) e = refl
-is-waiting (answered (solved k m)) e = absurd (true≢false (sym e))
-is-waiting (answered noPath) e = absurd (true≢false (sym e))
-is-waiting (refused n line) e = absurd (true≢false (sym e))
+pub unmoved : {ws : List ℕ} {s : Search} {w t : ℕ} {mid : List ℕ} {x : Search} → Waited ws s w t mid x → w ≡ 0 → Unmoved ws s t mid x
+unmoved at-first e = record { tickets = refl; words = refl; search = refl }
+unmoved (once-more r v p z) e = absurd (omega arith)
 
 -- ---- from sound words
 
@@ -140,20 +152,13 @@ waited-stays {ws} {s} ok (once-more {left = left} r v p e) = stays-more (waited-
 
 -- ---- from other words
 
-pub record Unmoved (ws : List ℕ) (s : Search) (w t : ℕ) (mid : List ℕ) (x : Search) : Type 0 where
-  pub waits : w ≡ 0
-  pub tickets : t ≡ 0
-  pub words : mid ≡ ws
-  pub search : x ≡ s
+module _ (ws : List ℕ) (s : Search) (unsound : soundWordsb ws ≡ false) where
+  pub unsound-is : stepWords ws s ≡ record { cache = readCache ws; search = s; reply = refused 7 0; tickets = 0 }
+  unsound-is = ap (λ (b : Bool). stepSoundIf b (readCache ws) s) unsound
 
-module _ {ws : List ℕ} {s : Search} (unsound : soundWordsb ws ≡ false) where
-  pub unsound-is : {w t : ℕ} {mid : List ℕ} {x : Search} → Unmoved ws s w t mid x
-      → stepWords mid x ≡ record { cache = readCache ws; search = s; reply = refused 7 0; tickets = 0 }
-  unsound-is h =
-      ap₂ (λ (l : List ℕ) (y : Search). stepWords l y) (h .words) (h .search) ∙ ap (λ (b : Bool). stepSoundIf b (readCache ws) s) unsound
-
-  pub unsound-unmoved : {w t : ℕ} {mid : List ℕ} {x : Search} → Waited ws s w t mid x → Unmoved ws s w t mid x
-  unsound-unmoved at-first = record { waits = refl; tickets = refl; words = refl; search = refl }
-  unsound-unmoved (once-more r v p e) =
-      let refuses : stepReply (r .answer) ≡ refused 7 0 = p .answer ∙ ap (λ (y : AfterStep). y .reply) (unsound-is (unsound-unmoved v)) in
-      absurd (true≢false (sym e ∙ ap isWaiting refuses))
+  pub unsound-none : {w t : ℕ} {mid : List ℕ} {x : Search} → Waited ws s w t mid x → w ≡ 0
+  unsound-none at-first = refl
+  unsound-none (once-more {mid = mid} {x = x} r v p e) =
+      let same = unmoved v (unsound-none v) in
+      let is : stepWords mid x ≡ stepWords ws s = ap₂ (λ (l : List ℕ) (y : Search). stepWords l y) (same .words) (same .search) in
+      absurd (true≢false (sym e ∙ ap isWaiting (p .answer ∙ ap (λ (y : AfterStep). y .reply) (is ∙ unsound-is))))

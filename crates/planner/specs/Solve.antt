@@ -4,54 +4,31 @@
 use mathlib.Core.Path.{_≡_}
 use mathlib.Core.Bool.{Bool, true, false}
 use mathlib.Core.List.{List, [], _∷_, _++_}
-use Prim.Native.Nat.{ℕ, zero, suc, _+_, _<_}
+use Prim.Native.Nat.{ℕ, zero, suc, _+_, _-_, _≤_}
 use lib.ListN.{length, replicate}
+use Rattle.model.specs.declared.Refusal.{Refusal}
 use Rattle.model.specs.declared.SearchStatus.the-variants.{Incomplete}
+use Rattle.model.specs.declared.StepAnswer.{StepAnswer}
 use Rattle.model.specs.declared.StepAnswer.the-variants as stepping
 use Rattle.model.specs.declared.Search.{Search}
 use Rattle.model.specs.declared.Stepped.{Stepped}
-use Rattle.model.specs.Answers.{Reply, answered, refused, Status, waiting, solved, noPath, stepReply}
-use Rattle.model.specs.Calls.{Cache, AfterStep, step}
+use Rattle.model.specs.Answers.{answered, refused, waiting, stepReply}
+use Rattle.model.specs.Calls.{Cache}
+use Rattle.model.specs.Solve.{isWaiting, lastReply, AfterSteps, solve}
 use Rattle.model.specs.Demands.{Call, Act, ownStep, Event, stepped}
 use Rattle.layout.specs.Read.{readCache}
 use Rattle.layout.specs.Sound.{soundWordsb}
 use Rattle.turn.specs.Turn.{Apart}
-use Rattle.dijkstra.specs.Calls.{Stepping}
+use Rattle.dijkstra.specs.Calls.{stepWords, Stepping}
 use Rattle.dijkstra.specs.Demands.{MadeAll, Chain, SameBut}
 use Rattle.planner.specs.declared.StepsTaken.{StepsTaken}
 
--- ---- the steps, on a cache
-
-abbrev pub isWaiting : Reply Status → Bool
-isWaiting (answered waiting) = true
-isWaiting (answered (solved k m)) = false
-isWaiting (answered noPath) = false
-isWaiting (refused n line) = false
-
-pub record AfterSteps : Type 0 where
-  pub cache : Cache
-  pub search : Search
-  pub reply : Reply Status
-  pub waits : ℕ
-  pub tickets : ℕ
-
-abbrev pub stepsIf : Bool → AfterStep → ℕ → ℕ → AfterSteps → AfterSteps
-stepsIf true r w t rest = rest
-stepsIf false r w t rest = record { cache = r .cache; search = r .search; reply = r .reply; waits = w; tickets = t }
-
--- at most n steps, each with the record that the one before it returned, after w waits and t tickets: the first answer that is not waiting
--- is the last
-unfoldable pub stepsFrom : ℕ → Cache → Search → ℕ → ℕ → AfterSteps
-unfolding step
-stepsFrom zero c s w t = record { cache = c; search = s; reply = answered waiting; waits = w; tickets = t }
-stepsFrom (suc n) c s w t =
-    let r = step c s in
-    stepsIf (isWaiting (r .reply)) r w (t + r .tickets) (stepsFrom n (r .cache) (r .search) (w + 1) (t + r .tickets))
+-- ---- on the cache that the words hold
 
 -- are the words sound? 7 "the slice is too short for its header or not sound"
 abbrev pub solveIf : Bool → ℕ → Cache → Search → AfterSteps
 solveIf false n c s = record { cache = c; search = s; reply = refused 7 0; waits = 0; tickets = 0 }
-solveIf true n c s = stepsFrom n c s 0 0
+solveIf true n c s = solve n c s
 
 abbrev pub solveWords : List ℕ → Search → ℕ → AfterSteps
 solveWords ws s n = solveIf (soundWordsb ws) n (readCache ws) s
@@ -64,12 +41,14 @@ pub data Waited (ws : List ℕ) (s : Search) : ℕ → ℕ → List ℕ → Sear
   once-more : {w t : ℕ} {mid left : List ℕ} {x : Search} (r : Stepped) → Waited ws s w t mid x → Stepping mid x r left
       → isWaiting (stepReply (r .answer)) ≡ true → Waited ws s (w + 1) (t + r .tickets) left (r .search)
 
--- n steps all waited; or fewer did, and the one after them answered
+-- n steps all waited, and where n is 0 one would wait; or fewer did, and the one after them did not wait. With no steps this one is not called: it
+-- is the call that would answer so
 pub data StepsCalled (ws : List ℕ) (s : Search) (n : ℕ) : StepsTaken → List ℕ → Type 0 where
-  all-wait : {t : ℕ} {left : List ℕ} {x : Search} → Waited ws s n t left x
+  all-wait : {t : ℕ} {left : List ℕ} {x : Search} → Waited ws s n t left x → (n ≡ 0 → isWaiting (stepWords ws s .reply) ≡ true)
       → StepsCalled ws s n (record { answer = stepping.Status Incomplete; waits = n; tickets = t; search = x }) left
-  one-answers : {w t : ℕ} {mid left : List ℕ} {x : Search} (r : Stepped) → w < n → Waited ws s w t mid x → Stepping mid x r left
-      → isWaiting (stepReply (r .answer)) ≡ false → StepsCalled ws s n (record { answer = r .answer; waits = w; tickets = t + r .tickets; search = r .search }) left
+  one-ends : {w t : ℕ} {mid left : List ℕ} {x : Search} (r : Stepped) (a : StepAnswer) → w ≤ n - 1 → Waited ws s w t mid x → Stepping mid x r left
+      → isWaiting (stepReply (r .answer)) ≡ false → stepReply a ≡ lastReply w (stepReply (r .answer))
+      → StepsCalled ws s n (record { answer = a; waits = w; tickets = t + r .tickets; search = r .search }) left
 
 -- ---- the promise
 
@@ -78,7 +57,7 @@ abbrev pub LeavesAfter : ℕ → List ℕ → Search → List ℕ → Type 0
 LeavesAfter zero ws s left = left ≡ ws
 LeavesAfter (suc w) ws s left = Apart ws s left
 
--- answer of the last, waits and tickets summed, the record, and the cache that the words left hold. What is free is the arrangement of the
+-- answer, waits and tickets summed, the record, and the cache that the words left hold. What is free is the arrangement of the
 -- queue words in the slots of the entries, as for `step`.
 pub record Solving (ws : List ℕ) (s : Search) (n : ℕ) (r : StepsTaken) (left : List ℕ) : Type 0 where
   pub answer : stepReply (r .answer) ≡ solveWords ws s n .reply
@@ -88,13 +67,21 @@ pub record Solving (ws : List ℕ) (s : Search) (n : ℕ) (r : StepsTaken) (left
   pub cache : readCache left ≡ solveWords ws s n .cache
   pub sound : soundWordsb left ≡ soundWordsb ws
   pub words : LeavesAfter (solveWords ws s n .waits) ws s left
-  pub called : 0 < n → StepsCalled ws s n r left
+  pub called : StepsCalled ws s n r left
+
+-- ---- Demand 1: "hold, after any refused call, what they held before it"
+
+abbrev pub Demand1 : Type 0
+Demand1 =
+    (ws : List ℕ) (s : Search) (n : ℕ) (r : StepsTaken) (left : List ℕ) → Solving ws s n r left
+    → (f : Refusal) (line : ℕ) → r .answer ≡ stepping.Refused f line
+    → (left ≡ ws) × ((r .search ≡ s) × ((r .waits ≡ 0) × ((r .tickets ≡ 0) × (line ≡ 0))))
 
 -- ---- what follows from the promise
 
 -- so many calls of `step` meet it
 abbrev pub StepsSolve : Type 0
-StepsSolve = (ws : List ℕ) (s : Search) (n : ℕ) (r : StepsTaken) (left : List ℕ) → 0 < n → StepsCalled ws s n r left → Solving ws s n r left
+StepsSolve = (ws : List ℕ) (s : Search) (n : ℕ) (r : StepsTaken) (left : List ℕ) → StepsCalled ws s n r left → Solving ws s n r left
 
 -- it leaves no more open than that of `step`: so `solve` answers as the steps do, and leaves the same words but for queue words
 abbrev pub Determined : Type 0

@@ -1,4 +1,5 @@
 // Many steps of a search at once, for a controller that owns its words between picks. The Rust's planner is not followed.
+use checked::is_waiting;
 use layout::wide;
 use model::Refusal;
 use model::Search;
@@ -9,7 +10,8 @@ ghost use mathlib.Core.Bool.{true};
 ghost use Prim.Native.Nat.{_<_};
 ghost use Rattle.model.specs.Answers.{stepReply};
 ghost use Rattle.layout.specs.Sound.{soundWordsb};
-ghost use Rattle.planner.specs.Solve.{Solving, isWaiting};
+ghost use Rattle.model.specs.Solve.{lastReply};
+ghost use Rattle.planner.specs.Solve.{Solving};
 
 // One step more than a search of 64 trees and 2,048 edges waits: 1 + 64 × (1 + 2,048) waits, and then its answer.
 pub const MAX_STEPS: u32 = 131138;
@@ -22,7 +24,9 @@ pub struct StepsTaken {
     pub search: Search,
 }
 
-// At most so many steps, one after the other, up to an answer. The words are checked once. With no steps the answer is waiting.
+// At most so many steps, one after the other, up to an answer. The words are checked once. With no steps it tells how the search
+// stands, and changes nothing. A refused call has changed nothing: where a step after the first is refused the answer is waiting, and
+// the next call is refused.
 pub fn solve(words: &mut [u32], search: Search, steps: u32) -> StepsTaken
     ensures { λ r. ⌜ Solving (now (words .entry)) search steps r (now (words .exit)) ⌝ }
 {
@@ -37,12 +41,21 @@ pub fn solve(words: &mut [u32], search: Search, steps: u32) -> StepsTaken
             search,
         };
     }
+    if steps == 0 {
+        let answer = checked::standing(words, search);
+        return StepsTaken {
+            answer,
+            waits: 0,
+            tickets: 0,
+            search,
+        };
+    }
     solve_sound(words, search, wide(steps))
 }
 
-// The same on words that were checked.
+// The same on words that were checked, with a step at least.
 fn solve_sound(words: &mut [u32], search: Search, steps: usize) -> StepsTaken
-    requires { ⌜ (soundWordsb (now words) ≡ true) × (steps < 4294967296) ⌝ }
+    requires { ⌜ (soundWordsb (now words) ≡ true) × ((0 < steps) × (steps < 4294967296)) ⌝ }
     ensures { λ r. ⌜ Solving (now (words .entry)) search steps r (now (words .exit)) ⌝ }
 {
     let mut next = search;
@@ -55,7 +68,7 @@ fn solve_sound(words: &mut [u32], search: Search, steps: usize) -> StepsTaken
         let search = stepped.search;
         if !is_waiting(answer) {
             return StepsTaken {
-                answer,
+                answer: last_answer(waits, answer),
                 waits,
                 tickets,
                 search,
@@ -72,18 +85,18 @@ fn solve_sound(words: &mut [u32], search: Search, steps: usize) -> StepsTaken
     }
 }
 
-fn is_waiting(answer: StepAnswer) -> bool
-    ensures { λ r. ⌜ r ≡ isWaiting (stepReply answer) ⌝ }
+// What is told of the step that did not wait.
+fn last_answer(waits: usize, answer: StepAnswer) -> StepAnswer
+    ensures { λ r. ⌜ stepReply r ≡ lastReply waits (stepReply answer) ⌝ }
 {
-    let StepAnswer::Status(status) = answer else {
-        return false;
-    };
-    match status {
-        SearchStatus::Incomplete => true,
-        SearchStatus::Solved {
-            total_cost: _,
-            moves: _,
-        } => false,
-        SearchStatus::Impossible => false,
+    if waits == 0 {
+        return answer;
+    }
+    match answer {
+        StepAnswer::Status(status) => StepAnswer::Status(status),
+        StepAnswer::Refused {
+            refusal: _,
+            line: _,
+        } => StepAnswer::Status(SearchStatus::Incomplete),
     }
 }

@@ -16,7 +16,7 @@ abbrev μ-loop : tie.MeasureT-loop
 μ-loop words₀ steps next₀ waits₀ tickets₀ words next waits tickets = steps - waits
 
 loop-holds : tie.Need-loop-holds Inv-loop μ-loop
-loop-holds c = going-first _ _ _ (c .before .pre .0)
+loop-holds c = going-first _ _ _ (c .before .pre .0) (c .before .pre .1 .0)
 
 step-requires : tie.Need-step-requires Inv-loop μ-loop
 step-requires c κs = going-sound (c .before .before .loop .inv)
@@ -25,18 +25,19 @@ add-tickets : tie.Need-add-tickets Inv-loop μ-loop
 add-tickets c =
     let t = c .before .before .before in
     let l = t .before .before .before in
-    record { fits = omega (arith, going-few (l .loop .inv) (t .step .ensures), l .loop .inv .few, l .before .before .pre .1) }
+    record { fits = omega (arith, going-few (l .loop .inv) (t .step .ensures), l .loop .inv .few, l .before .before .pre .1 .1) }
 
 same-length : tie.Need-same-length Inv-loop μ-loop
 same-length c =
-    let t = c .before .before .before .before .before .before in
+    let t = c .before .before .before .before .before .before .before in
     t .step .kept .0 ∙ going-length (t .before .before .before .loop .inv)
 
 returns : tie.Need-returns Inv-loop μ-loop
 returns c =
-    let t = c .before .before .before .before .before .before in
+    let e = c .before in
+    let t = e .before .before .before .before .before .before in
     going-answers (t .before .before .before .loop .inv) (t .before .before .loop-test .taken) (t .step .ensures)
-    (sym (c .before .is-waiting .ensures) ∙ not-true _ (c .if1 .taken))
+    (sym (e .before .is-waiting .ensures) ∙ not-true _ (e .if1 .taken)) (c .last-answer .ensures)
 
 loop-again : tie.Need-loop-again Inv-loop μ-loop
 loop-again c =
@@ -59,6 +60,7 @@ solve-sound-spec =
     loop-holds
     step-requires
     add-tickets
+    (λ c κs. search needs)
     (λ c κs. search needs)
     same-length
     returns
