@@ -49,7 +49,7 @@ module _ {ws : List ℕ} {s : Search} {n : ℕ} {r : StepsTaken} {left : List �
 -- ---- sound words
 
 -- where the first step waits, or there is one, the steps are those from the record given
-solve-from : (n : ℕ) (c : Cache) (s : Search) → (n ≡ 0 → isWaiting (step c s .reply) ≡ true) → solve n c s ≡ stepsFrom n c s 0 0
+pub solve-from : (n : ℕ) (c : Cache) (s : Search) → (n ≡ 0 → isWaiting (step c s .reply) ≡ true) → solve n c s ≡ stepsFrom n c s 0 0
 solve-from zero c s z =
     let told : step c s .reply ≡ answered waiting = is-waiting (step c s .reply) (z refl) in
     solve-none c s ∙ ap (λ (y : Reply Status). record { cache = c; search = s; reply = y; waits = 0; tickets = 0 }) told ∙ sym (steps-none c s 0 0)

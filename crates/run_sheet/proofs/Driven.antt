@@ -1,7 +1,7 @@
 -- A search that is stepped to its end after any calls: its line is right.
 -- Assumes nothing.
 use mathlib.Core.Path.{_≡_, refl, sym, ap, _∙_, subst}
-use mathlib.Core.Bool.{Bool, true, false}
+use mathlib.Core.Bool.{Bool, true, false, true≢false}
 use mathlib.Core.List.{List, [], _∷_, _++_}
 use Prim.Native.Nat.{ℕ, zero, suc, _+_, _*_, _<_, _≤_}
 use native.Mathlib.Omega.{arith}
@@ -13,12 +13,14 @@ use Rattle.model.specs.Answers.{Reply, answered, refused, Status, waiting, solv
 use Rattle.model.specs.Graph.{Graph, Accepted, Direction, pathWords}
 use Rattle.model.specs.Calls.{Cache, SoundCache, AfterStep, step, AfterRetrace, retrace, written}
 use Rattle.model.specs.Demands.{Act, ownStep, ownRetrace, Event, stepped, retraced, events, waitLimit, Outcome, unreachable, reached, Right, statusOf, shownIf, shownOf, Early, Late, Every, steps, Owed}
+use Rattle.model.specs.Solve.{isWaiting, lastReply, AfterSteps, stepsFrom}
 use Rattle.model.proofs.Replies.{answered-refused}
+use Rattle.model.proofs.Solve.{is-waiting}
 use Rattle.model.proofs.Keeps.{KeptCache, kept-sound, accepted-kept, step-keeps}
-use Rattle.planner.specs.Solve.{isWaiting, AfterSteps, stepsIf, stepsFrom}
 use Rattle.sheet.specs.Answers.{lineOf}
 use Rattle.run_sheet.specs.Orders.{lineFor, shownText, drivenText, textOf, RightLine}
 use Rattle.run_sheet.proofs.Bounds.{moves-few}
+use Rattle.run_sheet.proofs.Drives.{steps-cases}
 
 -- ---- the words of a path
 
@@ -130,19 +132,17 @@ module _ (dir : Direction) (g : Graph) (ss gs : List ℕ) where
     -- n steps are enough for the waits that are left
     pub line-from : (n : ℕ) (c : Cache) (s : Search) (w t : ℕ) → Accepted (c .domain .graph) → SoundCache c → ((acts : List Act) → Rest w (events c s acts))
         → waitLimit dir g ss gs < n + w → Line (drivenText i (stepsFrom n c s w t))
-    unfolding stepsFrom events
+    unfolding events
     line-from zero c s w t acc ok rest more = absurd (omega (arith, rest [] .few))
     line-from (suc n) c s w t acc ok rest more =
-        go (λ l. line-from n (r .cache) (r .search) (w + 1) u (accepted-kept c (r .cache) kept acc) (kept-sound c (r .cache) kept) l (omega arith)) (r .reply) refl
+        let kept = step-keeps c acc ok s in
+        let u : ℕ = t + step c s .tickets in
+        let ih = line-from n (step c s .cache) (step c s .search) (w + 1) u (accepted-kept c (step c s .cache) kept acc) (kept-sound c (step c s .cache) kept) in
+        steps-cases (λ d. Line (drivenText i d)) c s w t n (λ e. ih (λ acts. after-wait w _ (next _ (is-waiting (r .reply) e) acts)) (omega arith))
+        (λ e. go (r .reply) refl e)
       where
         r : AfterStep
         r = step c s
-
-        u : ℕ
-        u = t + r .tickets
-
-        kept : KeptCache c (r .cache)
-        kept = step-keeps c acc ok s
 
         p : List ℕ
         p = replicate 2047 0
@@ -151,19 +151,24 @@ module _ (dir : Direction) (g : Graph) (ss gs : List ℕ) where
         next x e acts = subst (λ (y : Reply Status). Rest w (stepped y ∷ events (r .cache) (r .search) acts)) e (rest (ownStep ∷ acts))
 
         end : Reply Status → AfterSteps
-        end x = record { cache = r .cache; search = r .search; reply = x; waits = w; tickets = u }
+        end x = record { cache = r .cache; search = r .search; reply = lastReply w x; waits = w; tickets = t + r .tickets }
 
-        told : (x : Reply Status) → r .reply ≡ x → Line (drivenText i (end x)) → Line (drivenText i (end (r .reply)))
-        told x e l = subst (λ (y : Reply Status). Line (drivenText i (end y))) (sym e) l
+        -- an answer is told after any number of waits
+        told : (x : Status) → r .reply ≡ answered x
+            → Line (drivenText i (record { cache = r .cache; search = r .search; reply = answered x; waits = w; tickets = t + r .tickets })) → Line (drivenText i (end (r .reply)))
+        told x e l = subst (λ (y : Reply Status). Line (drivenText i (end y))) (sym e) (by w)
+          where
+            by : (k : ℕ) → Line (drivenText i (record { cache = r .cache; search = r .search; reply = lastReply k (answered x); waits = w; tickets = t + r .tickets }))
+            by zero = l
+            by (suc k) = l
 
-        go : (((acts : List Act) → Rest (w + 1) (events (r .cache) (r .search) acts)) → Line (drivenText i (stepsFrom n (r .cache) (r .search) (w + 1) u)))
-            → (x : Reply Status) → r .reply ≡ x → Line (drivenText i (stepsIf (isWaiting x) r w u (stepsFrom n (r .cache) (r .search) (w + 1) u)))
-        go ih (answered waiting) e = ih (λ acts. after-wait w _ (next _ e acts))
-        go ih (answered (solved k m)) e =
+        go : (x : Reply Status) → r .reply ≡ x → isWaiting x ≡ false → Line (drivenText i (end (r .reply)))
+        go (answered waiting) e z = absurd (true≢false z)
+        go (answered (solved k m)) e z =
             let few : m < 1024 = omega (arith, moves-few c s (ok .trees) k m e, acc .vertices) in
             let x = ended w _ _ (λ z. let y : _≡_ {A = ℕ} 0 1 = cc in omega arith) (next _ e (ownRetrace p ∷ [])) in
-            told _ e (solved-line w u k m (r .cache) (r .search) p (retrace (r .cache) (r .search) p) (omega (arith, length-replicate {A = ℕ} 2047 0)) x)
-        go ih (answered noPath) e = told _ e (none-line w u [] (ended w _ _ (λ z. let y : _≡_ {A = ℕ} 0 1 = cc in omega arith) (next _ e [])))
-        go ih (refused k l) e =
+            told _ e (solved-line w (t + r .tickets) k m (r .cache) (r .search) p (retrace (r .cache) (r .search) p) (omega (arith, length-replicate {A = ℕ} 2047 0)) x)
+        go (answered noPath) e z = told _ e (none-line w (t + r .tickets) [] (ended w _ _ (λ z. let y : _≡_ {A = ℕ} 0 1 = cc in omega arith) (next _ e [])))
+        go (refused k l) e z =
             let x = ended w (stepped (refused k l)) [] (λ z. answered-refused waiting k l (sym z)) (next _ e []) in
             absurd (answered-refused _ k l (sym (x .now)))

@@ -1,18 +1,30 @@
 -- So many steps at once, in sound words: they are those of the cache, and their counts are small.
 -- Assumes nothing.
-use mathlib.Core.Path.{_≡_, ap, _∙_}
+use mathlib.Core.Path.{_≡_, refl, sym, ap, _∙_, subst}
 use mathlib.Core.Bool.{Bool, true, false}
 use mathlib.Core.List.{List}
-use Prim.Native.Nat.{ℕ, zero, suc, _+_, _*_, _≤_}
+use Prim.Native.Nat.{ℕ, zero, suc, _+_, _*_, _<_, _≤_}
 use native.Mathlib.Omega.{arith}
 use Rattle.model.specs.declared.Search.{Search}
-use Rattle.model.specs.Calls.{Cache, AfterStep, step}
+use Rattle.model.specs.Calls.{Cache, step}
+use Rattle.model.specs.Solve.{isWaiting, AfterSteps, stepsFrom, solve}
+use Rattle.model.proofs.Solve.{steps-none, steps-wait, steps-end, more, last}
 use Rattle.layout.specs.Read.{readCache}
 use Rattle.layout.specs.Sound.{soundWordsb}
 use Rattle.checked.proofs.Records.{step-few}
 use Rattle.planner.specs.declared.StepsTaken.{StepsTaken}
-use Rattle.planner.specs.Solve.{isWaiting, AfterSteps, stepsIf, stepsFrom, solveIf, solveWords, Solving}
+use Rattle.planner.specs.Solve.{solveIf, solveWords, Solving}
+use Rattle.planner.proofs.Solved.{solve-from}
 use Rattle.run_sheet.specs.Sheet.{Counted, afterSteps}
+
+-- a step that waits, and the rest; or the last
+pub steps-cases : (P : AfterSteps → Type 0) (c : Cache) (s : Search) (w t n : ℕ) → (isWaiting (step c s .reply) ≡ true → P (more c s w t n))
+    → (isWaiting (step c s .reply) ≡ false → P (last c s w t)) → P (stepsFrom (suc n) c s w t)
+steps-cases P c s w t n waits ends = go (isWaiting (step c s .reply)) refl
+  where
+    go : (b : Bool) → isWaiting (step c s .reply) ≡ b → P (stepsFrom (suc n) c s w t)
+    go true e = subst P (sym (steps-wait c s w t n e)) (waits e)
+    go false e = subst P (sym (steps-end c s w t n e)) (ends e)
 
 -- after w waits and t tickets, n steps wait once each and take 640 tickets each, at most
 record Few (n w t : ℕ) (d : AfterSteps) : Type 0 where
@@ -20,19 +32,15 @@ record Few (n w t : ℕ) (d : AfterSteps) : Type 0 where
   tickets : d .tickets ≤ t + 640 * n
 
 steps-few : (n : ℕ) (c : Cache) (s : Search) (w t : ℕ) → Few n w t (stepsFrom n c s w t)
-unfolding stepsFrom
-steps-few zero c s w t = record { waits = omega arith; tickets = omega arith }
-steps-few (suc n) c s w t = go (isWaiting (r .reply)) (steps-few n (r .cache) (r .search) (w + 1) (t + r .tickets))
-  where
-    r : AfterStep
-    r = step c s
-
-    go : (b : Bool) {rest : AfterSteps} → Few n (w + 1) (t + r .tickets) rest → Few (suc n) w t (stepsIf b r w (t + r .tickets) rest)
-    go true ih = record { waits = omega (arith, ih .waits); tickets = omega (arith, ih .tickets, step-few c s) }
-    go false ih = record { waits = omega arith; tickets = omega (arith, step-few c s) }
+steps-few zero c s w t = rw (steps-none c s w t) (record { waits = omega arith; tickets = omega arith })
+steps-few (suc n) c s w t =
+    let ih = steps-few n (step c s .cache) (step c s .search) (w + 1) (t + step c s .tickets) in
+    steps-cases (Few (suc n) w t) c s w t n
+    (λ e. record { waits = omega (arith, ih .waits); tickets = omega (arith, ih .tickets, step-few c s) })
+    (λ e. record { waits = omega arith; tickets = omega (arith, step-few c s) })
 
 module _ {ws left : List ℕ} {s : Search} {n : ℕ} {r : StepsTaken} (p : Solving ws s n r left) (ok : soundWordsb ws ≡ true) where
-  pub taken-is : afterSteps r left ≡ stepsFrom n (readCache ws) s 0 0
+  pub taken-is : afterSteps r left ≡ solve n (readCache ws) s
   taken-is =
       let called : afterSteps r left ≡ solveWords ws s n = λ i. record {
         cache = p .cache i;
@@ -44,9 +52,9 @@ module _ {ws left : List ℕ} {s : Search} {n : ℕ} {r : StepsTaken} (p : Solvi
       called ∙ ap (λ (b : Bool). solveIf b n (readCache ws) s) ok
 
   -- 640 × 15,000,000 is a number of 10 digits
-  pub taken-counted : n ≤ 15000000 → Counted r
-  taken-counted h =
-      let few = steps-few n (readCache ws) s 0 0 in
+  pub taken-counted : 0 < n → n ≤ 15000000 → Counted r
+  taken-counted some h =
+      let few = rw (sym (solve-from n (readCache ws) s (λ none. absurd (omega arith)))) at (steps-few n (readCache ws) s 0 0) in
       record {
         waits = omega (arith, few .waits, ap (λ (d : AfterSteps). d .waits) taken-is);
         tickets = omega (arith, few .tickets, ap (λ (d : AfterSteps). d .tickets) taken-is);

@@ -9,7 +9,7 @@ use Rattle.model.specs.declared.OpenAnswer.the-variants.{Opened}
 use Rattle.model.specs.declared.Search.{Search}
 use Rattle.model.specs.Answers.{Reply, answered, refused}
 use Rattle.model.specs.Graph.{Accepted}
-use Rattle.model.specs.Calls.{Cache, opened, AfterInitialize, initialize, AfterStep, step}
+use Rattle.model.specs.Calls.{Cache, opened, AfterInitialize, initialize, step}
 use Rattle.model.specs.Demands.{Call, initializing, stepping, after, afterAll, Act, events, waitLimit}
 use Rattle.model.proofs.Faults.{may-initialize, no-fault}
 use Rattle.model.proofs.Keeps.{KeptCache, kept-sound, accepted-kept, initialize-keeps, after-all-keeps}
@@ -18,14 +18,19 @@ use Rattle.layout.specs.Read.{directionOf, readCache}
 use Rattle.cache.specs.Demand1.{Opens}
 use Rattle.cache.proofs.Demand1.{demand-1}
 use Rattle.sound.proofs.Opened.{opened-sound}
-use Rattle.planner.specs.Solve.{isWaiting, AfterSteps, stepsIf, stepsFrom}
+use Rattle.model.specs.Solve.{AfterSteps, stepsFrom, solve, maxSteps}
+use Rattle.model.proofs.Solve.{steps-none, solve-some}
 use Rattle.run_sheet.specs.Orders.{Ordered, orderedBy, ordered, RightLine, RightLines, OrdersAreCalls}
 use Rattle.run_sheet.specs.Sheet.{Called, PrintsRight, LinesAreRight, OpensCalled}
 use Rattle.run_sheet.proofs.Texts.{ordered-is}
 use Rattle.run_sheet.proofs.Bounds.{waits-few}
+use Rattle.run_sheet.proofs.Drives.{steps-cases}
 use Rattle.run_sheet.proofs.Driven.{Rest, line-from}
 
 -- ---- an order
+
+enough-steps : (c : Cache) (s : Search) → solve maxSteps c s ≡ stepsFrom maxSteps c s 0 0
+enough-steps c s = solve-some 131137 c s
 
 -- by the reply of its opening
 ordered-by : (i : ℕ) (c : Cache) (ss gs : List ℕ) (x : Reply (Unit {0})) → initialize c ss gs .reply ≡ x → ordered i c ss gs .text ≡ orderedBy x (initialize c ss gs) i .text
@@ -44,28 +49,23 @@ right-lines dir g acc slots before ss gs i e =
     let m = may-initialize c ss gs (no-fault c ss gs e) in
     let rest : (acts : List Act) → Rest dir g ss gs 0 (events (r .cache) (r .search) acts) = λ acts.
     let o = model.demand-3 dir g acc slots before ss gs e acts in record { owed = o; few = omega (arith, o .few) } in
-    let enough : waitLimit dir g ss gs < 131138 + 0 = omega (arith, waits-few dir g acc ss gs (m .few-starts) (m .few-goals)) in
-    rw (ordered-by i c ss gs (answered tt) e) (line-from dir g ss gs i 131138 (r .cache) (r .search) 0 0 (accepted-kept c (r .cache) l a) (kept-sound c (r .cache) l) rest enough)
+    let enough : waitLimit dir g ss gs < maxSteps + 0 = omega (arith, waits-few dir g acc ss gs (m .few-starts) (m .few-goals)) in
+    rw (ordered-by i c ss gs (answered tt) e, enough-steps (r .cache) (r .search))
+    (line-from dir g ss gs i maxSteps (r .cache) (r .search) 0 0 (accepted-kept c (r .cache) l a) (kept-sound c (r .cache) l) rest enough)
 
 -- ---- its calls
 
-steps-calls : (n : ℕ) (c : Cache) (s : Search) (w t : ℕ) → (xs : List Call) × (stepsFrom n c s w t .cache ≡ afterAll c xs)
-unfolding stepsFrom afterAll
-steps-calls zero c s w t = ([], refl)
-steps-calls (suc n) c s w t = go (steps-calls n (r .cache) (r .search) (w + 1) u) (isWaiting (r .reply))
-  where
-    r : AfterStep
-    r = step c s
+-- what some steps came to is what calls leave
+abbrev Calls : Cache → AfterSteps → Type 0
+Calls c d = (xs : List Call) × (d .cache ≡ afterAll c xs)
 
-    u : ℕ
-    u = t + r .tickets
-
-    rest : AfterSteps
-    rest = stepsFrom n (r .cache) (r .search) (w + 1) u
-
-    go : (xs : List Call) × (rest .cache ≡ afterAll (r .cache) xs) → (b : Bool) → (xs : List Call) × (stepsIf b r w u rest .cache ≡ afterAll c xs)
-    go ih true = (stepping s ∷ ih .0, ih .1)
-    go ih false = (stepping s ∷ [], refl)
+steps-calls : (n : ℕ) (c : Cache) (s : Search) (w t : ℕ) → Calls c (stepsFrom n c s w t)
+unfolding afterAll
+steps-calls zero c s w t = rw (steps-none c s w t) ([], refl)
+steps-calls (suc n) c s w t =
+    let r = step c s in
+    let ih = steps-calls n (r .cache) (r .search) (w + 1) (t + r .tickets) in
+    steps-cases (Calls c) c s w t n (λ e. (stepping s ∷ ih .0, ih .1)) (λ e. (stepping s ∷ [], refl))
 
 pub orders-are-calls : OrdersAreCalls
 orders-are-calls i c ss gs = rw (sym (ordered-is i c ss gs)) (go (r .reply))
@@ -78,7 +78,9 @@ orders-are-calls i c ss gs = rw (sym (ordered-is i c ss gs)) (go (r .reply))
 
     go : (x : Reply (Unit {0})) → (xs : List Call) × (orderedBy x r i .cache ≡ afterAll c xs)
     go (refused n l) = (initializing ss gs ∷ [], (unfold afterAll in refl))
-    go (answered tt) = let d = steps-calls 131138 (r .cache) (r .search) 0 0 in (initializing ss gs ∷ d .0, d .1 ∙ first (d .0))
+    go (answered tt) =
+        let d = steps-calls maxSteps (r .cache) (r .search) 0 0 in
+        (initializing ss gs ∷ d .0, ap (λ (x : AfterSteps). x .cache) (enough-steps (r .cache) (r .search)) ∙ d .1 ∙ first (d .0))
 
 -- ---- the lines printed, and the words left for the next order
 

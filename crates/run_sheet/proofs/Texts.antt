@@ -21,9 +21,10 @@ use Rattle.layout.specs.Read.{readCache}
 use Rattle.layout.specs.Sound.{soundWordsb}
 use Rattle.dijkstra.specs.Calls.{initializeIf, initializeWords, Initializing, retraceIf, Retracing}
 use Rattle.planner.specs.declared.StepsTaken.{StepsTaken}
-use Rattle.planner.specs.Solve.{AfterSteps, Solving}
+use Rattle.model.specs.Solve.{AfterSteps, maxSteps}
+use Rattle.planner.specs.Solve.{Solving}
 use Rattle.sheet.specs.declared.answers.Answer.{Answer}
-use Rattle.sheet.specs.declared.answers.Answer.the-variants.{Solved, Impossible, Refused}
+use Rattle.sheet.specs.declared.answers.Answer.the-variants.{Solved, Impossible, Refused, Incomplete}
 use Rattle.sheet.specs.declared.answers.Line.{Line}
 use Rattle.sheet.specs.declared.orders.Form.{Form}
 use Rattle.sheet.specs.declared.orders.Form.the-variants.{Forward, Backward, Illegal}
@@ -47,15 +48,17 @@ abbrev lineBy : ℕ → AfterSteps → Answer → Line
 lineBy i d a = record { order = i; answer = a; waits = d .waits; tickets = d .tickets }
 
 -- of an order that is not solved no path is shown
-pub unsolved-text : (d : AfterSteps) (i : ℕ) {a : Answer} → a ≡ answerOf (d .reply) → (tagOf answer.the-type a ≡ 1) ⊎ (tagOf answer.the-type a ≡ 2)
+pub unsolved-text : (d : AfterSteps) (i : ℕ) {a : Answer} → a ≡ answerOf (d .reply) → (tagOf answer.the-type a ≡ 1) ⊎ ((tagOf answer.the-type a ≡ 2) ⊎ (tagOf answer.the-type a ≡ 3))
     → lineOf (lineBy i d a) [] ≡ drivenText i d
 unsolved-text d i {a} e h = go a h ∙ ap (λ (x : Answer). drivenBy x i d) e
   where
-    go : (x : Answer) → (tagOf answer.the-type x ≡ 1) ⊎ (tagOf answer.the-type x ≡ 2) → lineOf (lineBy i d a) [] ≡ drivenBy x i d
+    go : (x : Answer) → (tagOf answer.the-type x ≡ 1) ⊎ ((tagOf answer.the-type x ≡ 2) ⊎ (tagOf answer.the-type x ≡ 3)) → lineOf (lineBy i d a) [] ≡ drivenBy x i d
     go (Solved k) (inl h) = absurd (omega arith)
-    go (Solved k) (inr h) = absurd (omega arith)
+    go (Solved k) (inr (inl h)) = absurd (omega arith)
+    go (Solved k) (inr (inr h)) = absurd (omega arith)
     go Impossible h = ap (λ (x : Answer). lineOf (lineBy i d x) []) e
     go (Refused n) h = ap (λ (x : Answer). lineOf (lineBy i d x) []) e
+    go Incomplete h = ap (λ (x : Answer). lineOf (lineBy i d x) []) e
 
 -- of a solved one, what `retrace` answers in sound words
 module _ (ws : List ℕ) (t : StepsTaken) (i : ℕ) where
@@ -113,7 +116,7 @@ module _ {ws ss gs : List ℕ} (ok : soundWordsb ws ≡ true) {r : SearchOpened}
       → Ran ws i ss gs out n left out′
   ran-refused {i} {f = f} {line = line} e h t = ran (opens-as i (initializing.Refused f line) e) (puts-as (ap (refusedText i) h) t) refl (p .sound ∙ ok)
 
-  pub ran-driven : {i n : ℕ} {out words out′ : List ℕ} {t : StepsTaken} → r .answer ≡ initializing.Initialized → Solving left (r .search) 131138 t words
+  pub ran-driven : {i n : ℕ} {out words out′ : List ℕ} {t : StepsTaken} → r .answer ≡ initializing.Initialized → Solving left (r .search) maxSteps t words
       → Puts out 0 (drivenText i (afterSteps t words)) n out′ → Ran ws i ss gs out n words out′
   ran-driven {i} e h t =
       let taken = taken-is h (p .sound ∙ ok) in

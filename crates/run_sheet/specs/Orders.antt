@@ -4,29 +4,24 @@ use mathlib.Core.Path.{_≡_}
 use mathlib.Core.List.{List, []}
 use Prim.Native.Nat.{ℕ, _+_, _*_, _≤_}
 use lib.ListN.{take, replicate}
-use Rattle.model.specs.declared.Search.{Search}
 use Rattle.model.specs.Answers.{Reply, answered, refused, Status, waiting, solved, noPath}
 use Rattle.model.specs.Graph.{Graph, Accepted, Direction, pathWords}
 use Rattle.model.specs.Calls.{Cache, opened, AfterInitialize, initialize, retrace}
 use Rattle.model.specs.Demands.{Call, afterAll, Outcome, unreachable, reached, waitLimit, Right}
-use Rattle.planner.specs.Solve.{AfterSteps, stepsFrom}
+use Rattle.model.specs.Solve.{AfterSteps, solve, maxSteps}
 use Rattle.sheet.specs.declared.answers.Answer.{Answer}
-use Rattle.sheet.specs.declared.answers.Answer.the-variants.{Solved, Impossible, Refused}
+use Rattle.sheet.specs.declared.answers.Answer.the-variants.{Solved, Impossible, Refused, Incomplete}
 use Rattle.sheet.specs.declared.answers.Line.{Line}
 use Rattle.sheet.specs.Answers.{lineOf}
 
 -- ---- stepping a search to its end
 
--- the order's answer, by that of its last step, which never waits
+-- the order's answer, by that of its steps
 abbrev pub answerOf : Reply Status → Answer
-answerOf (answered waiting) = Refused 8
+answerOf (answered waiting) = Incomplete
 answerOf (answered (solved k m)) = Solved k
 answerOf (answered noPath) = Impossible
 answerOf (refused n line) = Refused n
-
--- waits are waiting answers, tickets the sum over the order's steps; one step more than 1 + 64 × (1 + 2,048) waits, so that the last never waits
-abbrev pub drove : Cache → Search → AfterSteps
-drove c s = stepsFrom 131138 c s 0 0
 
 -- ---- the line of order i
 
@@ -46,6 +41,7 @@ abbrev pub drivenBy : Answer → ℕ → AfterSteps → List ℕ
 drivenBy (Solved k) i d = let r = retrace (d .cache) (d .search) (replicate 2047 0) in shownText i d (r .reply) (r .path)
 drivenBy Impossible i d = lineOf (lineFor i d) []
 drivenBy (Refused n) i d = lineOf (lineFor i d) []
+drivenBy Incomplete i d = lineOf (lineFor i d) []
 
 abbrev pub drivenText : ℕ → AfterSteps → List ℕ
 drivenText i d = drivenBy (answerOf (d .reply)) i d
@@ -56,11 +52,12 @@ pub record Ordered : Type 0 where
 
 abbrev pub orderedBy : Reply (Unit {0}) → AfterInitialize → ℕ → Ordered
 orderedBy (refused n line) r i = record { cache = r .cache; text = refusedText i n }
-orderedBy (answered x) r i = let d = drove (r .cache) (r .search) in record { cache = d .cache; text = drivenText i d }
+-- waits are waiting answers, tickets the sum over the order's steps. So many steps are enough: the line of an order that was opened is a right one
+orderedBy (answered x) r i = let d = solve maxSteps (r .cache) (r .search) in record { cache = d .cache; text = drivenText i d }
 
 -- order i from the starts ss to the goals gs, on the cache c of its direction
 unfoldable pub ordered : ℕ → Cache → List ℕ → List ℕ → Ordered
-unfolding stepsFrom initialize retrace
+unfolding solve initialize retrace
 ordered i c ss gs = let r = initialize c ss gs in orderedBy (r .reply) r i
 
 -- ---- the line is right, whatever was called before: demand 3, of what is printed

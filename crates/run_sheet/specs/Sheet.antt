@@ -15,7 +15,7 @@ use Rattle.layout.specs.Read.{directionOf, readCache}
 use Rattle.layout.specs.Sound.{soundWordsb}
 use Rattle.cache.specs.Open.{Opening}
 use Rattle.planner.specs.declared.StepsTaken.{StepsTaken}
-use Rattle.planner.specs.Solve.{AfterSteps}
+use Rattle.model.specs.Solve.{AfterSteps}
 use Rattle.sheet.specs.declared.orders.Numbers.{Numbers}
 use Rattle.sheet.specs.declared.orders.Form.{Form}
 use Rattle.sheet.specs.declared.orders.Form.the-variants.{Forward, Backward, Illegal}

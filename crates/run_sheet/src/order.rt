@@ -87,14 +87,14 @@ fn put_search(
     }
 }
 
-// The line's answer, by that of the last step. It never waits: a search that was opened answers within so many steps.
+// The line's answer, by that of the steps.
 fn answer_of(answer: StepAnswer) -> Answer
     ensures { λ r. ⌜ r ≡ answerOf (stepReply answer) ⌝ }
 {
     match answer {
         StepAnswer::Refused { refusal, line: _ } => Answer::Refused(number(refusal)),
         StepAnswer::Status(status) => match status {
-            SearchStatus::Incomplete => Answer::Refused(8),
+            SearchStatus::Incomplete => Answer::Incomplete,
             SearchStatus::Solved {
                 total_cost,
                 moves: _,

@@ -10,7 +10,7 @@ use lib.Seq.{length-take-le, take-all}
 use Rattle.text.specs.Print.{decimal}
 use Rattle.sheet.specs.Answers.{Puts, joined, lineOf, spaced, answerFields, pathText}
 use Rattle.sheet.specs.declared.answers.Answer.{Answer}
-use Rattle.sheet.specs.declared.answers.Answer.the-variants.{Solved, Impossible, Refused}
+use Rattle.sheet.specs.declared.answers.Answer.the-variants.{Solved, Impossible, Refused, Incomplete}
 use Rattle.sheet.specs.declared.answers.Line.{Line}
 use Rattle.sheet.proofs.Digits.{decimal-length}
 use Rattle.sheet.proofs.Puts.{puts-none, puts-then}
@@ -62,11 +62,13 @@ pub answer-length : (a : Answer) → length (answerFields a) ≤ 21
 answer-length (Solved k) = omega (arith, length-append (decimal k) (44 ∷ []), decimal-length k)
 answer-length Impossible = omega arith
 answer-length (Refused n) = omega (arith, length-append (decimal n) (44 ∷ 45 ∷ 44 ∷ []), decimal-length n)
+answer-length Incomplete = omega arith
 
 pub path-length : (a : Answer) (ws : List ℕ) → length (pathText a ws) ≤ 11 * length ws + 1
 path-length (Solved k) ws = omega (arith, joined-length ws)
 path-length Impossible ws = omega arith
 path-length (Refused n) ws = omega arith
+path-length Incomplete ws = omega arith
 
 -- the text of a line as its fields are put
 pub line-text : (x : Line) (p : List ℕ) → lineOf x p

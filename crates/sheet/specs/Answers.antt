@@ -8,11 +8,11 @@ use Rattle.text.specs.Bytes.{lineFeed, comma, hyphen}
 use Rattle.text.specs.Print.{decimal}
 use Rattle.sheet.specs.Orders.{space}
 use Rattle.sheet.specs.declared.answers.Answer.{Answer}
-use Rattle.sheet.specs.declared.answers.Answer.the-variants.{Solved, Impossible, Refused}
+use Rattle.sheet.specs.declared.answers.Answer.the-variants.{Solved, Impossible, Refused, Incomplete}
 use Rattle.sheet.specs.declared.answers.Digits.{Digits}
 use Rattle.sheet.specs.declared.answers.Line.{Line}
 
--- the words "solved", "none" and "refused", in ASCII
+-- the words "solved", "none", "refused" and "waiting", in ASCII
 abbrev pub solvedText : List ℕ
 solvedText = 115 ∷ 111 ∷ 108 ∷ 118 ∷ 101 ∷ 100 ∷ []
 
@@ -22,6 +22,9 @@ noneText = 110 ∷ 111 ∷ 110 ∷ 101 ∷ []
 abbrev pub refusedText : List ℕ
 refusedText = 114 ∷ 101 ∷ 102 ∷ 117 ∷ 115 ∷ 101 ∷ 100 ∷ []
 
+abbrev pub waitingText : List ℕ
+waitingText = 119 ∷ 97 ∷ 105 ∷ 116 ∷ 105 ∷ 110 ∷ 103 ∷ []
+
 -- `refused` and a number
 abbrev pub refusedBy : ℕ → List ℕ
 refusedBy n = refusedText ++ (space ∷ decimal n)
@@ -30,12 +33,14 @@ abbrev pub answerText : Answer → List ℕ
 answerText (Solved k) = solvedText
 answerText Impossible = noneText
 answerText (Refused n) = refusedBy n
+answerText Incomplete = waitingText
 
 -- "`-` absent"
 abbrev pub totalText : Answer → List ℕ
 totalText (Solved k) = decimal k
 totalText Impossible = hyphen ∷ []
 totalText (Refused n) = hyphen ∷ []
+totalText Incomplete = hyphen ∷ []
 
 -- a path's words, parted by single spaces
 unfoldable pub joined : List ℕ → List ℕ
@@ -48,6 +53,7 @@ abbrev pub pathText : Answer → List ℕ → List ℕ
 pathText (Solved k) p = joined p
 pathText Impossible p = hyphen ∷ []
 pathText (Refused n) p = hyphen ∷ []
+pathText Incomplete p = hyphen ∷ []
 
 -- "order number, answer, total, waits, tickets, run"
 unfoldable pub lineOf : Line → List ℕ → List ℕ

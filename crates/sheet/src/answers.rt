@@ -6,11 +6,12 @@ ghost use lib.ListN.{length};
 ghost use Rattle.text.specs.Print.{decimal};
 ghost use Rattle.sheet.specs.Answers.{CanPutLine, Puts, lineOf, refusedLine, answerFields, pathText, joined, spaced, DigitsOf};
 
-// The answer of an order: its total and path, none, or the number of a refusal.
+// The answer of an order: its total and path, none, the number of a refusal, or that its search still waits.
 pub enum Answer {
     Solved(u32),
     Impossible,
     Refused(u32),
+    Incomplete,
 }
 
 // What is said of an order.
@@ -61,6 +62,7 @@ fn put_answer(out: &mut [u8], at: usize, answer: Answer) -> usize
             let b = put_decimal(out, a, wide(number));
             put_bytes(out, b, b",-,")
         }
+        Answer::Incomplete => put_bytes(out, at, b"waiting,-,"),
     }
 }
 
@@ -73,6 +75,7 @@ fn put_run(out: &mut [u8], at: usize, answer: Answer, path: &[u32]) -> usize
         Answer::Solved(_) => put_words(out, at, path),
         Answer::Impossible => put_byte(out, at, b'-'),
         Answer::Refused(_) => put_byte(out, at, b'-'),
+        Answer::Incomplete => put_byte(out, at, b'-'),
     }
 }
 

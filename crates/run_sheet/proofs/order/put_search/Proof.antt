@@ -24,7 +24,7 @@ put-driven-requires c κs =
     let r = c .before .before .before .before in
     let o = r .before .before .before .before .before .before .before in
     let a = o .before .before .before .before .before .before .before .before .before .before in
-    (a .pre .0, (taken-counted (r .solve .ensures) (sound o) (omega arith), r .solve .ensures .sound ∙ sound o))
+    (a .pre .0, (taken-counted (r .solve .ensures) (sound o) (omega arith) (omega arith), r .solve .ensures .sound ∙ sound o))
 
 returns : tie.Need-returns
 returns c =

@@ -40,6 +40,9 @@ returns-3 c =
     let q = puts-then (omega (arith, start a .pre, p .ensures .end, p .kept .0)) number (c .before .before .put-bytes4 .ensures) in
     rw (a .before .before .before .before .answer2 .given .1) (puts-then (omega (arith, start a .pre)) (p .ensures) q)
 
+returns-4 : tie.Need-returns-4
+returns-4 c = rw (c .before .before .before .before .before .enum-told2 .given .1) (c .before .before .put-bytes5 .ensures)
+
 pub put-answer-spec : {M : Type 1} → statement M
 put-answer-spec =
     tie.close
@@ -60,8 +63,13 @@ put-answer-spec =
     (λ c. search needs)
     put-bytes-requires-4
     (λ c. search needs)
+    (λ c. search needs)
+    (λ c κs. search needs)
+    (λ c. search needs)
     returns
     (λ c. search needs)
     returns-2
     (λ c. search needs)
-    returns-3)
+    returns-3
+    (λ c. search needs)
+    returns-4)
