@@ -32,3 +32,4 @@ pub mod RefinesEvents
 pub mod Demand2
 pub mod Examples
 pub mod Altered
+pub mod AlteredRecords
