@@ -13,12 +13,12 @@ use Rattle.model.specs.declared.BestSolution.{BestSolution}
 use Rattle.model.specs.declared.BestSolution.the-variants.{NoBest, Best}
 use Rattle.model.specs.declared.TreeMemory.{TreeMemory}
 use Rattle.model.specs.declared.Search.{Search}
-use Rattle.model.specs.Answers.{Reply, answered, refused, waiting, solved, noPath}
+use Rattle.model.specs.Answers.{answered, refused, waiting, solved, noPath}
 use Rattle.model.specs.Graph.{Graph, forward}
 use Rattle.model.specs.Path.{path, words}
 use Rattle.model.specs.Search.{blank}
 use Rattle.model.specs.Valid.{valid}
-use Rattle.model.specs.Calls.{opened, AfterStep, step, retrace}
+use Rattle.model.specs.Calls.{opened, AfterStep, step, AfterRetrace, retrace}
 use Rattle.model.proofs.Examples.{order, order0, double, fork}
 
 abbrev pub memory : ℕ → KnownLen → Solution → TreeMemory
@@ -195,29 +195,34 @@ best-not-held-yet : isValid (recordOf (unsolved ∷ solution ∷ []) (2 ∷ []) 
 unfolding isValid
 best-not-held-yet = refl
 
--- ---- "run 7, 8, 9, 10": not finished; finished with no best; too few words
+-- ---- "run 7, 8, 9, 10", and "Words past these stay.": the path in a slice of n sevens
 
-unfoldable pub showing : Search → ℕ → Reply ℕ
+unfoldable pub showing : Search → ℕ → AfterRetrace
 unfolding retrace order0 path words
-showing s n = (retrace (order0 .cache) s (replicate n 7)) .reply
+showing s n = retrace (order0 .cache) s (replicate n 7)
 
-shown-in-five : showing ownRecord 5 ≡ answered 2
+shown-in-five : showing ownRecord 5 ≡ record { reply = answered 2; path = 0 ∷ 0 ∷ 1 ∷ 1 ∷ 2 ∷ [] }
 unfolding showing
 shown-in-five = refl
 
-short-path : showing ownRecord 4 ≡ refused 10 0
+words-past-stay : showing ownRecord 7 ≡ record { reply = answered 2; path = 0 ∷ 0 ∷ 1 ∷ 1 ∷ 2 ∷ 7 ∷ 7 ∷ [] }
+unfolding showing
+words-past-stay = refl
+
+short-path : showing ownRecord 4 ≡ record { reply = refused 10 0; path = 7 ∷ 7 ∷ 7 ∷ 7 ∷ [] }
 unfolding showing
 short-path = refl
 
-not-finished : showing (recordOf (solution ∷ []) (2 ∷ []) (Best 0 3) false) 4 ≡ refused 9 0
+-- not finished; finished with no best
+not-finished : showing (recordOf (solution ∷ []) (2 ∷ []) (Best 0 3) false) 1 ≡ record { reply = refused 9 0; path = 7 ∷ [] }
 unfolding showing
 not-finished = refl
 
-not-solved : showing (recordOf (unsolved ∷ []) (3 ∷ []) NoBest true) 4 ≡ refused 9 0
+not-solved : showing (recordOf (unsolved ∷ []) (3 ∷ []) NoBest true) 1 ≡ record { reply = refused 9 0; path = 7 ∷ [] }
 unfolding showing
 not-solved = refl
 
-invalid-first : showing (recordOf (memory 1 (Len 3) Unsolved ∷ []) (3 ∷ []) NoBest true) 0 ≡ refused 8 0
+invalid-first : showing (recordOf (memory 1 (Len 3) Unsolved ∷ []) (3 ∷ []) NoBest true) 0 ≡ record { reply = refused 8 0; path = [] }
 unfolding showing
 invalid-first = refl
 

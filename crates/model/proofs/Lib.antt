@@ -33,3 +33,4 @@ pub mod Demand2
 pub mod Examples
 pub mod Altered
 pub mod AlteredRecords
+pub mod EdgeCases

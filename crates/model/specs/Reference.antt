@@ -1,7 +1,8 @@
--- The reference: the Rust's `initialize`, `push_node`, `step`, `retrace` and `backtrack`, statement by statement, on the same trees. The
--- edges are walked in the rows of simple.rs (specs/SimpleGraph.antt). A `HashMap` of trees is found by its key, the start vertex; a closed set is the map from a vertex to its node; the heap gives the least
--- ticket by evaluation, then `node_id` (the reference build's tie rule). Nothing connects, so `connect` and `decisive` are left out, and
--- no lock is poisoned. A path is kept whole, and the best solution as its entry and its cost.
+-- The reference: the Rust's `initialize`, `push_node`, `step`, `retrace` and `backtrack`, statement by statement, on the same trees. Edges
+-- are walked in the rows of simple.rs (SimpleGraph.antt). A `HashMap` of trees is found by its key, the start vertex; a closed set is the
+-- map from a vertex to its node; the heap gives the least ticket by evaluation, then `node_id` (the reference build's tie rule). Nothing
+-- connects, so `connect` and `decisive` are left out, and no lock is poisoned. A path is kept whole, and the best solution as its entry
+-- and its cost.
 -- Assumes nothing.
 use mathlib.Core.Path.{_≡_}
 use mathlib.Core.Bool.{Bool, true, false}
@@ -242,7 +243,7 @@ pub record Growing : Type 0 where
   pub solution : Option Path
   pub broken : Bool
 
--- the graph of the text, from which simple.rs makes its table: a backward cache holds it turned round, and turned round again it is the text's
+-- the graph of the text, of which simple.rs makes its table: a backward cache holds it turned round, and turned round again it is the text's
 abbrev pub textGraph : Domain → Graph
 textGraph d = (domain (d .direction) (d .graph)) .graph
 
