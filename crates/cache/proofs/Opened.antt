@@ -9,7 +9,7 @@ use lib.Seq.{take-at, drop-drop, drop-append-add}
 use Rattle.model.specs.Answers.{answered}
 use Rattle.model.specs.Graph.{Graph, Direction, forward, backward, Domain, domain, Accepted, vertexCount, edgeCount, edgeNumbers}
 use Rattle.model.specs.Calls.{opened, written}
-use Rattle.model.proofs.Reversed.{domain-direction}
+use Rattle.model.proofs.Reversed.{domain-direction, domain-counts}
 use Rattle.text.specs.declared.counts.Counts.{Counts}
 use Rattle.text.specs.Read.{judge, graphOf}
 use Rattle.text.proofs.Accepted.{judged-counts, judged-accepted}
@@ -18,7 +18,6 @@ use Rattle.layout.specs.Words.{directionWord, headerOf, edgeWords, firstPlaces,
 use Rattle.layout.specs.Read.{directionOf, graphIn, readCache}
 use Rattle.layout.proofs.Edges.{graph-in}
 use Rattle.graph.proofs.Lengths.{graph-words-length}
-use Rattle.graph.proofs.Written.{domain-counts}
 
 direction-of : (dir : Direction) → directionOf (directionWord dir) ≡ dir
 direction-of forward = refl

@@ -7,12 +7,12 @@ use native.Mathlib.Omega.{arith}
 use lib.ListN.{length, getD, take, replicate, length-append, length-replicate, getD-replicate, List·getD-append}
 use lib.Seq.{getD-append-add}
 use Rattle.model.specs.Graph.{Graph, Direction, Domain, domain, Accepted, vertexCount, edgeCount, from, to, cost, edgeNumbers}
+use Rattle.model.proofs.Reversed.{domain-counts}
 use Rattle.layout.specs.Layout.{initialAt, edgesAt, placesAt, numbersAt, slotsAt, treeWords}
 use Rattle.layout.specs.Words.{headerOf, edgeWords, firstPlace, firstPlaces, openedWords}
 use Rattle.layout.proofs.Edges.{edge-words-length, from-word, to-word, cost-word}
 use Rattle.graph.proofs.Lines.{held-initial}
 use Rattle.graph.proofs.Lengths.{first-places-length, first-place-at, edge-numbers-length}
-use Rattle.graph.proofs.Written.{domain-counts}
 use Rattle.cache.proofs.Opened.{front, front-length, opened-split, opened-graph}
 
 -- a word of the list behind n others

@@ -10,3 +10,4 @@ pub mod Histories
 pub mod Demands
 pub mod Determined
 pub mod Examples
+pub mod HistoryExample

@@ -8,14 +8,13 @@ use lib.ListN.{length, getD, length-append, length-map}
 use Rattle.model.specs.Lists.{numbers}
 use Rattle.model.specs.Graph.{Graph, Direction, forward, backward, Domain, domain, Accepted, vertexCount, edgeCount, edgesInUse, from, to, edgeNumbers}
 use Rattle.model.proofs.Lists.{up-length, numbers-mem, map-up-at}
-use Rattle.model.proofs.Reversed.{accepted-domain}
+use Rattle.model.proofs.Reversed.{accepted-domain, domain-counts}
 use Rattle.layout.specs.Words.{edgeWords, firstPlace, firstPlaces, graphWords}
 use Rattle.layout.proofs.Edges.{edge-words-length}
 use Rattle.graph.specs.Sort.{gathered}
 use Rattle.graph.specs.Write.{orderBy}
 use Rattle.graph.proofs.Buckets.{gathered-length}
 use Rattle.graph.proofs.Ordered.{getD-mem, choices-gathered, gathered-mem}
-use Rattle.graph.proofs.Written.{domain-counts}
 
 -- the edges in use, in either order, are as many as there are
 order-length : (dir : Direction) (g : Graph) → Accepted g → length (orderBy dir g) ≡ edgeCount g

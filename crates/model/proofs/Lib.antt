@@ -33,3 +33,5 @@ pub mod RefinesEvents
 pub mod Demand2
 pub mod Examples
 pub mod Altered
+pub mod AlteredRecords
+pub mod EdgeCases

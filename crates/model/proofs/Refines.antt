@@ -5,7 +5,7 @@ use mathlib.Core.Logic.{_≢_}
 use mathlib.Core.Bool.{Bool, true, false}
 use mathlib.Core.List.{List, [], _∷_, _++_, map, map-append}
 use mathlib.Core.Option.{Option, none, some}
-use Prim.Native.Nat.{ℕ, zero, suc, _-_, _<_}
+use Prim.Native.Nat.{ℕ, zero, suc, _+_, _-_, _<_}
 use native.Mathlib.Nat.{lt-of-not-le}
 use native.Mathlib.Decide.{decLe, ℕ-discrete}
 use native.Mathlib.Omega.{arith}
@@ -18,12 +18,15 @@ use Rattle.model.specs.declared.KnownLen.the-variants.{Never, Len}
 use Rattle.model.specs.declared.Solution.{Solution}
 use Rattle.model.specs.declared.Solution.the-variants.{Unsolved, At}
 use Rattle.model.specs.declared.TreeMemory.{TreeMemory}
-use Rattle.model.specs.Graph.{Domain, Direction, forward, backward, absent, vertexCount, initialCost}
+use Rattle.model.specs.Graph.{Domain, Direction, forward, backward, absent, vertexCount, to, choices, initialCost}
 use Rattle.model.specs.Tree.{Tree, Node, node, closedAt, evaluationOf, closedWithin, pushIf, child, newTree, rootNode, pushAll}
 use Rattle.model.specs.Tree as trees
 use Rattle.model.specs.Sound.{noTree, tree, SoundTrees}
 use Rattle.model.specs.Search.{closedCount, remembers, chosen, consider, cheapest, lookupIf, lookup, seek, Planted, entryOf, plant, plantAll, rootsOf, goalsOf, newSearch, blank}
-use Rattle.model.specs.Reference.{Path, TreeEntry, retraceNode, statusOfWord, statusForKey, rejects, pushUnless, pushNode, get, put, entryAt, plantedTree, Opening, opening, openings, Opened, forwardInitialize, initializeIn, initialize, pathIf, lookAt, lookGoals, sameLen, lookUnless, pushChoices, readKnown, readSolution, readEntry, readMemory}
+use Rattle.model.specs.SimpleGraph.{edgesFromVertex}
+use Rattle.model.specs.Reference.{Path, TreeEntry, retraceNode, statusOfWord, statusForKey, rejects, pushUnless, pushNode, get, put, entryAt, plantedTree, Opening, opening, openings, Opened, forwardInitialize, initializeIn, initialize, pathIf, lookAt, lookGoals, sameLen, lookUnless, textGraph, pushChoices, readKnown, readSolution, readEntry, readMemory}
+use Rattle.model.proofs.Reversed.{domain-cost}
+use Rattle.model.proofs.Rows.{targetOf, rows-held}
 use Rattle.model.proofs.Keeps.{seek-at, seek-none, empty-word}
 use Rattle.model.proofs.Retraced.{retrace-cost}
 
@@ -124,10 +127,18 @@ push-is t x =
     ap (λ (b : Bool). pushUnless b t x) (rejects-is (t .nodes) x (closedAt (t .closed) (x .vertex)))
     ∙ unless-is (closedWithin (t .nodes) (evaluationOf x) (closedAt (t .closed) (x .vertex))) t x
 
-pub choices-is : (d : Domain) (n k : ℕ) (t : Tree) (ls : List ℕ) → pushChoices d n k t ls ≡ pushAll d n k t ls
+pub choices-is : (d : Domain) (n k : ℕ) (t : Tree) (ls : List ℕ) → pushChoices d n k t (map (targetOf (d .graph)) ls) ≡ pushAll d n k t ls
 unfolding pushChoices pushAll
 choices-is d n k t [] = refl
-choices-is d n k t (l ∷ ls) = choices-is d n k _ ls ∙ ap (λ (u : Tree). pushAll d n k u ls) (push-is t (child d n k l))
+choices-is d n k t (l ∷ ls) =
+    choices-is d n k _ ls
+    ∙ ap (λ (u : Tree). pushAll d n k u ls)
+    (ap (λ (c : ℕ). pushNode t (record { vertex = to (d .graph) l; cost = k + c; parent = n; edge = l })) (domain-cost (d .direction) (d .graph) l) ∙ push-is t (child d n k l))
+
+-- a row of the Rust's edge table, pushed
+pub row-is : (d : Domain) (n k : ℕ) (t : Tree) (v : ℕ) → v < vertexCount (d .graph)
+    → pushChoices d n k t (edgesFromVertex (d .direction) (textGraph d) v) ≡ pushAll d n k t (choices d v)
+row-is d n k t v inside = ap (pushChoices d n k t) (rows-held d v inside) ∙ choices-is d n k t (choices d v)
 
 pub planted-is : (d : Domain) (v : ℕ) → plantedTree d v ≡ newTree d v
 unfolding plantedTree newTree pushNode

@@ -14,15 +14,16 @@ use Rattle.model.specs.declared.KnownLen.{KnownLen}
 use Rattle.model.specs.declared.Solution.{Solution}
 use Rattle.model.specs.declared.Solution.the-variants.{Unsolved, At}
 use Rattle.model.specs.Lists.{mem}
-use Rattle.model.specs.Graph.{Domain, Accepted, choices}
+use Rattle.model.specs.Graph.{Domain, Accepted}
 use Rattle.model.specs.Tree.{Tree, Node, node, closedAt, evaluation, precedes, pick, leastOf, least, popped, close, expanded, Going, on, found, over, Growth, above, goingOn, taken, ticketOf, ticket, grow}
 use Rattle.model.specs.Sound.{Sound}
 use Rattle.model.specs.Search.{closedCount, lookup, Turn, findOf, under, grown, turnBy, turn}
 use Rattle.model.specs.Reference.{orderingOf, orCompare, topWhen, topOf, top, rejects, statusOfWord, sameLen, lookUnless, Growing, pastBound, closing, endTicket, expandTop, closeTop, popTop, iterate, growTree, peeks, TurnEnd, exhaustedUnless, grownEnd, turnEnd, readKnown, readSolution}
 use Rattle.model.proofs.Lists.{Least, least-is}
+use Rattle.model.proofs.Least.{node-inside}
 use Rattle.model.proofs.Grow.{popped-sound, expanded-sound}
 use Rattle.model.proofs.Later.{ticket-cases}
-use Rattle.model.proofs.Refines.{choices-is, look-is}
+use Rattle.model.proofs.Refines.{row-is, look-is}
 
 abbrev pub readBound : CostBound → Option ℕ
 readBound Unbounded = none
@@ -86,20 +87,21 @@ least-waits ns (x ∷ xs) n e =
     let r : Least ns x xs n = subst (Least ns x xs) z (least-is ns x xs) in
     elim (r .among) [ inl h ↦ List·Memᴰ·head h | inr m ↦ List·Memᴰ·tail m ]
 
-module _ (d : Domain) (gs : List ℕ) (b : CostBound) where
+module _ (d : Domain) (gs : List ℕ) (b : CostBound) (acc : Accepted (d .graph)) where
   module _ (t : Tree) (ok : Sound d t) (k : ℕ) where
-    expand-is : (n : ℕ) → expandTop d gs (readBound b) (popped t n) n ≡ readGrowth (taken d gs b t k n false)
+    expand-is : (n : ℕ) → List·Memᴰ n (t .waiting) → expandTop d gs (readBound b) (popped t n) n ≡ readGrowth (taken d gs b t k n false)
     unfolding expandTop taken popped expanded close
-    expand-is n =
+    expand-is n m =
         let x : Node = node (t .nodes) n in
-        ap₂ (λ (o : Bool) (u : Tree). endTicket (mem (x .vertex) gs) o u n) (past-is b (x .cost)) (choices-is d n (x .cost) (closing (popped t n) (x .vertex) n) (choices d (x .vertex)))
+        ap₂ (λ (o : Bool) (u : Tree). endTicket (mem (x .vertex) gs) o u n) (past-is b (x .cost))
+        (row-is d n (x .cost) (closing (popped t n) (x .vertex) n) (x .vertex) (node-inside d acc t ok n (ok .queue n m)))
         ∙ end-is (mem (x .vertex) gs) (above (x .cost) b) (expanded d (popped t n) n) (suc k) n
 
     -- a ticket for a closed vertex costs no less than the node that closed it
     close-is : (n : ℕ) → List·Memᴰ n (t .waiting) → (w : ℕ) → closedAt (t .closed) ((node (t .nodes) n) .vertex) ≡ w
         → closeTop d gs (readBound b) (popped t n) n (rejects (t .nodes) (node (t .nodes) n) (statusOfWord w)) ≡ readGrowth (taken d gs b t k n (not (eqb w 0)))
     unfolding closeTop taken
-    close-is n m zero e = expand-is n
+    close-is n m zero e = expand-is n m
     close-is n m (suc i) e = rw (eqb·suc-zero i, le-leb ((node (t .nodes) i) .cost) ((node (t .nodes) n) .cost) (ok .cheapest _ i n e m))
 
     pop-is : (o : Option ℕ) → least (t .nodes) (t .waiting) ≡ o → popTop d gs (readBound b) t o ≡ readGrowth (ticketOf d gs b t k o)
@@ -114,40 +116,39 @@ module _ (d : Domain) (gs : List ℕ) (b : CostBound) where
   iterate-is t k (found n) ok = refl
   iterate-is t k over ok = refl
 
-  module _ (acc : Accepted (d .graph)) where
-    ticket-sound : (t : Tree) (k : ℕ) (g : Going) → Sound d t → Sound d ((ticket d gs b t k g) .tree)
-    unfolding ticket
-    ticket-sound t k on ok =
-        ticket-cases d acc gs b t ok k (λ g. Sound d (g .tree)) (λ e. ok) (λ n i m e. popped-sound d t ok n i m e) (λ n m e f. expanded-sound d acc t ok n m e f)
-    ticket-sound t k (found n) ok = ok
-    ticket-sound t k over ok = ok
+  ticket-sound : (t : Tree) (k : ℕ) (g : Going) → Sound d t → Sound d ((ticket d gs b t k g) .tree)
+  unfolding ticket
+  ticket-sound t k on ok =
+      ticket-cases d acc gs b t ok k (λ g. Sound d (g .tree)) (λ e. ok) (λ n i m e. popped-sound d t ok n i m e) (λ n m e f. expanded-sound d acc t ok n m e f)
+  ticket-sound t k (found n) ok = ok
+  ticket-sound t k over ok = ok
 
-    pub grow-is : (j : ℕ) (g : Growth) → Sound d (g .tree) → growTree d gs (readBound b) j (readGrowth g) ≡ readGrowth (grow d gs b j g)
-    unfolding growTree grow
-    grow-is zero g ok = refl
-    grow-is (suc j) g ok =
-        ap (λ (r : Growing). growTree d gs (readBound b) j r) (iterate-is (g .tree) (g .tickets) (g .going) ok)
-        ∙ grow-is j (ticket d gs b (g .tree) (g .tickets) (g .going)) (ticket-sound (g .tree) (g .tickets) (g .going) ok)
+  pub grow-is : (j : ℕ) (g : Growth) → Sound d (g .tree) → growTree d gs (readBound b) j (readGrowth g) ≡ readGrowth (grow d gs b j g)
+  unfolding growTree grow
+  grow-is zero g ok = refl
+  grow-is (suc j) g ok =
+      ap (λ (r : Growing). growTree d gs (readBound b) j r) (iterate-is (g .tree) (g .tickets) (g .going) ok)
+      ∙ grow-is j (ticket d gs b (g .tree) (g .tickets) (g .going)) (ticket-sound (g .tree) (g .tickets) (g .going) ok)
 
-    -- ---- an entry's turn
+  -- ---- an entry's turn
 
-    grown-is : (g : Growth) (x : Bool) → grownEnd (readGrowth g) (readBound b) x ≡ readTurn (grown g b) x
-    unfolding grownEnd grown
-    grown-is g x =
-        ap (λ (p : Bool). record {
-          tree = g .tree;
-          known = some (closedCount (g .tree .closed));
-          solution = readSolution (g .tree .nodes) (findOf (g .going));
-          exhausted = exhaustedUnless p x;
-        }) (ap (λ (o : Option ℕ). peeks (g .tree .nodes) o (readBound b)) (top-is (g .tree .nodes) (g .tree .waiting)) ∙ peeks-is (g .tree .nodes) (least (g .tree .nodes) (g .tree .waiting)) b)
+  grown-is : (g : Growth) (x : Bool) → grownEnd (readGrowth g) (readBound b) x ≡ readTurn (grown g b) x
+  unfolding grownEnd grown
+  grown-is g x =
+      ap (λ (p : Bool). record {
+        tree = g .tree;
+        known = some (closedCount (g .tree .closed));
+        solution = readSolution (g .tree .nodes) (findOf (g .going));
+        exhausted = exhaustedUnless p x;
+      }) (ap (λ (o : Option ℕ). peeks (g .tree .nodes) o (readBound b)) (top-is (g .tree .nodes) (g .tree .waiting)) ∙ peeks-is (g .tree .nodes) (least (g .tree .nodes) (g .tree .waiting)) b)
 
-    pub turn-is : (t : Tree) (known : KnownLen) (x : Bool) → Sound d t
-        → turnEnd d gs (readBound b) t (readKnown known) x (lookUnless (sameLen (readKnown known) (closedCount (t .closed))) t gs) ≡ readTurn (turn d gs b t known) x
-    unfolding turnEnd turn
-    turn-is t known x ok = ap (turnEnd d gs (readBound b) t (readKnown known) x) (look-is d t gs known) ∙ go (lookup d t gs known)
-      where
-        go : (o : Solution) → turnEnd d gs (readBound b) t (readKnown known) x (readSolution (t .nodes) o) ≡ readTurn (turnBy d gs b t known o) x
-        go (At n) = refl
-        go Unsolved =
-            let g : Growth = record { tree = t; tickets = 0; going = on } in
-            ap (λ (r : Growing). grownEnd r (readBound b) x) (grow-is 10 g ok) ∙ grown-is (grow d gs b 10 g) x
+  pub turn-is : (t : Tree) (known : KnownLen) (x : Bool) → Sound d t
+      → turnEnd d gs (readBound b) t (readKnown known) x (lookUnless (sameLen (readKnown known) (closedCount (t .closed))) t gs) ≡ readTurn (turn d gs b t known) x
+  unfolding turnEnd turn
+  turn-is t known x ok = ap (turnEnd d gs (readBound b) t (readKnown known) x) (look-is d t gs known) ∙ go (lookup d t gs known)
+    where
+      go : (o : Solution) → turnEnd d gs (readBound b) t (readKnown known) x (readSolution (t .nodes) o) ≡ readTurn (turnBy d gs b t known o) x
+      go (At n) = refl
+      go Unsolved =
+          let g : Growth = record { tree = t; tickets = 0; going = on } in
+          ap (λ (r : Growing). grownEnd r (readBound b) x) (grow-is 10 g ok) ∙ grown-is (grow d gs b 10 g) x

@@ -94,6 +94,17 @@ unfolding domain
 accepted-domain forward g ok = ok
 accepted-domain backward g ok = accepted-reversed g ok
 
+pub domain-counts : (dir : Direction) (g : Graph)
+    → (vertexCount (domain dir g .graph) ≡ vertexCount g) × (edgeCount (domain dir g .graph) ≡ edgeCount g)
+unfolding domain
+domain-counts forward g = (refl, refl)
+domain-counts backward g = (reverse-vertices g, reverse-count g)
+
+pub domain-cost : (dir : Direction) (g : Graph) (l : ℕ) → cost (domain dir g .graph) l ≡ cost g l
+unfolding domain
+domain-cost forward g l = refl
+domain-cost backward g l = reverse-cost g l
+
 pub domain-direction : (dir : Direction) (g : Graph) → (domain dir g) .direction ≡ dir
 unfolding domain
 domain-direction forward g = refl

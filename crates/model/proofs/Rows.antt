@@ -11,9 +11,10 @@ use lib.Dec.{eqb}
 use lib.ListN.{length, getD, length-set, length-replicate, getD-replicate}
 use lib.Seq.{getD-set-same, getD-set-other, append-snoc}
 use Rattle.model.specs.Lists.{upFrom, numbers, keep, those, joined}
-use Rattle.model.specs.Graph.{Edge, noEdge, Graph, vertexCount, from, to, edgesInUse, Direction, forward, backward, reversed, domain, leaving, between, choices}
+use Rattle.model.specs.Graph.{Edge, noEdge, Graph, vertexCount, from, to, edgesInUse, Direction, forward, backward, reversed, Domain, domain, leaving, between, choices}
 use Rattle.model.specs.SimpleGraph.{Target, noTargets, pushEdge, emptyRows, fromIters, edgeRows, reverseRow, reverseRows, reversedRows, edgesFromVertex}
-use Rattle.model.proofs.Reversed.{reverse-from, reverse-to, reverse-count, reverse-vertices}
+use Rattle.model.specs.Reference.{textGraph}
+use Rattle.model.proofs.Reversed.{reverse-from, reverse-to, reverse-count, reverse-vertices, domain-counts, domain-twice}
 
 -- the edge l, as a row of g's table holds it
 abbrev pub targetOf : Graph → ℕ → Target
@@ -170,3 +171,15 @@ pub rows-are : (dir : Direction) (g : Graph) (v : ℕ) → v < vertexCount g
 unfolding edgesFromVertex domain choices
 rows-are forward g v inside = edge-rows-row g v inside
 rows-are backward g v inside = reversed-rows-row g v inside
+
+-- the text's graph, found again from the graph that a cache holds
+pub text-graph : (dir : Direction) (g : Graph) → textGraph (domain dir g) ≡ g
+unfolding domain
+text-graph forward g = refl
+text-graph backward g = ap (λ (d : Domain). d .graph) (domain-twice backward g)
+
+-- so of every domain
+pub rows-held : (d : Domain) (v : ℕ) → v < vertexCount (d .graph) → edgesFromVertex (d .direction) (textGraph d) v ≡ map (targetOf (d .graph)) (choices d v)
+rows-held d v inside =
+    rows-are (d .direction) (textGraph d) v (omega (arith, domain-counts (d .direction) (d .graph)))
+    ∙ ap (λ (e : Domain). map (targetOf (e .graph)) (choices e v)) (domain-twice (d .direction) (d .graph))

@@ -1,7 +1,8 @@
--- The reference: the Rust's `initialize`, `push_node`, `step`, `retrace` and `backtrack`, statement by statement, on the same trees. A
--- `HashMap` of trees is found by its key, the start vertex; a closed set is the map from a vertex to its node; the heap gives the least
--- ticket by evaluation, then `node_id` (the reference build's tie rule). Nothing connects, so `connect` and `decisive` are left out, and
--- no lock is poisoned. A path is kept whole, and the best solution as its entry and its cost.
+-- The reference: the Rust's `initialize`, `push_node`, `step`, `retrace` and `backtrack`, statement by statement, on the same trees. Edges
+-- are walked in the rows of simple.rs (SimpleGraph.antt). A `HashMap` of trees is found by its key, the start vertex; a closed set is the
+-- map from a vertex to its node; the heap gives the least ticket by evaluation, then `node_id` (the reference build's tie rule). Nothing
+-- connects, so `connect` and `decisive` are left out, and no lock is poisoned. A path is kept whole, and the best solution as its entry
+-- and its cost.
 -- Assumes nothing.
 use mathlib.Core.Path.{_≡_}
 use mathlib.Core.Bool.{Bool, true, false}
@@ -20,7 +21,8 @@ use Rattle.model.specs.declared.TreeMemory.{TreeMemory}
 use Rattle.model.specs.declared.Search.{Search}
 use Rattle.model.specs.Lists.{mem}
 use Rattle.model.specs.Answers.{Reply, answered, refused, Status, waiting, solved, noPath}
-use Rattle.model.specs.Graph.{Graph, Accepted, Domain, Direction, forward, backward, to, cost, absent, vertexCount, choices, initialCost}
+use Rattle.model.specs.Graph.{Graph, Accepted, Domain, Direction, forward, backward, cost, absent, vertexCount, domain, initialCost}
+use Rattle.model.specs.SimpleGraph.{Target, edgesFromVertex}
 use Rattle.model.specs.Tree.{Tree, Node, node, closedAt, evaluation, popped, rootNode}
 use Rattle.model.specs.Sound.{noTree, tree}
 use Rattle.model.specs.Search.{closedCount, entries, goals, entry, solutionCost}
@@ -241,12 +243,16 @@ pub record Growing : Type 0 where
   pub solution : Option Path
   pub broken : Bool
 
--- `for next in self.domain.choices(top.state.clone())`
-unfoldable pub pushChoices : Domain → ℕ → ℕ → Tree → List ℕ → Tree
-unfolding pushNode
+-- the graph of the text, of which simple.rs makes its table: a backward cache holds it turned round, and turned round again it is the text's
+abbrev pub textGraph : Domain → Graph
+textGraph d = (domain (d .direction) (d .graph)) .graph
+
+-- `for next in self.domain.choices(top.state.clone())`: a row of the edge table, target by target
+unfoldable pub pushChoices : Domain → ℕ → ℕ → Tree → List Target → Tree
+unfolding pushNode domain
 pushChoices d top k t [] = t
-pushChoices d top k t (l ∷ ls) =
-    pushChoices d top k (pushNode t (record { vertex = to (d .graph) l; cost = k + cost (d .graph) l; parent = top; edge = l })) ls
+pushChoices d top k t (x ∷ xs) =
+    pushChoices d top k (pushNode t (record { vertex = x .to; cost = k + cost (textGraph d) (x .edge); parent = top; edge = x .edge })) xs
 
 -- `container.insert`, and `*prior = top_id`
 abbrev pub closing : Tree → ℕ → ℕ → Tree
@@ -263,10 +269,11 @@ endTicket true past t top = record { tree = t; solution = some (retraceNode (t .
 endTicket false past t top = record { tree = t; solution = none; broken = past }
 
 unfoldable pub expandTop : Domain → List ℕ → Option ℕ → Tree → ℕ → Growing
-unfolding pushChoices retraceNode choices mem
+unfolding pushChoices retraceNode edgesFromVertex domain mem
 expandTop d keys bound t top =
     let x = node (t .nodes) top in
-    endTicket (mem (x .vertex) keys) (pastBound bound (x .cost)) (pushChoices d top (x .cost) (closing t (x .vertex) top) (choices d (x .vertex))) top
+    endTicket (mem (x .vertex) keys) (pastBound bound (x .cost))
+    (pushChoices d top (x .cost) (closing t (x .vertex) top) (edgesFromVertex (d .direction) (textGraph d) (x .vertex))) top
 
 -- `CloseResult::Rejected { prior, .. }`: `if prior_node.cost <= top.cost { continue; }`, else `*prior = top_id`
 unfoldable pub closeTop : Domain → List ℕ → Option ℕ → Tree → ℕ → Bool → Growing

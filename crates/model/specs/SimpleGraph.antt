@@ -1,5 +1,5 @@
 -- simple.rs: the Rust's edge table, statement by statement, with one row for each vertex (01: "ours sizes it by motifs"). Its rows are what
--- `edges_from_vertex` walks, and so the order in which a closed vertex's edges are queued.
+-- `edges_from_vertex` walks, and so the order in which the reference queues a closed vertex's edges.
 -- Assumes nothing.
 use mathlib.Core.List.{List, [], _∷_, _++_}
 use Prim.Native.Nat.{ℕ, suc}

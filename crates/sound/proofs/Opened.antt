@@ -13,7 +13,7 @@ use lib.ListN.{length, getD, drop, length-append}
 use Rattle.model.specs.declared.OpenAnswer.the-variants.{Opened}
 use Rattle.model.specs.Graph.{Graph, Direction, forward, backward, Domain, Accepted, vertexCount, edgeCount, from, to, cost, domain, edgeNumbers}
 use Rattle.model.specs.Calls.{Cache, opened, written}
-use Rattle.model.proofs.Reversed.{accepted-domain, domain-twice}
+use Rattle.model.proofs.Reversed.{accepted-domain, domain-twice, domain-counts}
 use Rattle.text.specs.Print.{printed}
 use Rattle.text.proofs.Printed.{prints}
 use Rattle.layout.specs.Layout.{initialAt, edgesAt, placesAt, numbersAt, slotsAt, needed}
@@ -22,7 +22,6 @@ use Rattle.layout.specs.Read.{directionOf, graphIn, domainOf, readCache}
 use Rattle.layout.specs.Sound.{soundWordsb}
 use Rattle.layout.specs.Held.{Held}
 use Rattle.layout.proofs.Edges.{initial-word, vertex-count-in, edge-count-in, from-word, to-word, cost-word}
-use Rattle.graph.proofs.Written.{domain-counts}
 use Rattle.cache.specs.Open.{afterOpen, openCache}
 use Rattle.cache.specs.Demand1.{Opens}
 use Rattle.cache.proofs.Opened.{word-of, opened-length, read-opened}
