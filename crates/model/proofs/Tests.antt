@@ -4,17 +4,17 @@ use mathlib.Core.Path.{_≡_, refl, sym, ap, _∙_, subst}
 use mathlib.Core.Logic.{_⊎_, inl, inr, _≢_}
 use mathlib.Core.Bool.{Bool, true, false, not, _&&_, _||_, true≢false}
 use mathlib.Core.List.{List, [], _∷_, List·Memᴰ}
-use Prim.Native.Nat.{ℕ, zero, suc, _+_, _<_}
+use Prim.Native.Nat.{ℕ, zero, suc, _+_, _<_, _≤_}
 use native.Mathlib.Nat.{le-of-suc-le-suc, lt-of-not-le}
 use native.Mathlib.Decide.{decLe, ℕ-discrete}
 use native.Mathlib.Omega.{arith}
 use borrow.Author.Tests.{ltb-true, leb-true, eqb-true, eqb-false, not-true, lt-ltb, le-leb, eq-eqb, ne-eqb}
 use lib.Dec.{eqb, leb, ltb}
 use lib.ListN.{length, getD, length-map, List·getD-map, List·getD-eq-default}
-use Rattle.model.specs.Lists.{mem, upto, allIn}
-use Rattle.model.specs.Graph.{Domain, from, to, absent, edgesInUse, initialCost}
+use Rattle.model.specs.Lists.{mem, upto}
+use Rattle.model.specs.Graph.{Domain, Usable, from, to, absent, edgesInUse, initialCost}
 use Rattle.model.specs.Tree.{Tree, Node, node, closedAt, closedWithin, evaluation, weight}
-use Rattle.model.specs.Sound.{noTree, tree, Hangs, Reached, shut, waits, Sound, SoundTrees, closedb, reachedb, hangTests, hangsb, soundTests, soundb, starts, distinctb, soundTreesb}
+use Rattle.model.specs.Sound.{noTree, tree, Hangs, Reached, shut, waits, Sound, SoundTrees, closedb, reachedb, hangTests, hangsb, rootTests, waitingTests, closerb, begunb, onwardb, onwardAllb, soundTests, soundb, starts, distinctb, soundTreesb}
 use Rattle.model.proofs.Lists.{mem-listed, listed-mem}
 use Rattle.model.proofs.Choices.{in-use-mem, in-use-has}
 use Rattle.model.proofs.Bools.{and-true, true-and, or-cases, true-or-left, true-or-right, all-true, true-given, upto-at, at-upto, all-in-at, at-all-in, any-in-at, at-any-in, ascends-at, at-ascends}
@@ -26,12 +26,9 @@ differs-at a b e = eqb-false a b (not-true (eqb a b) e)
 at-differs : (a b : ℕ) → a ≢ b → not (eqb a b) ≡ true
 at-differs a b h = rw (ne-eqb a b h)
 
--- a test of each closed word
-closed-at : (p : ℕ → ℕ → Bool) (cl : List ℕ) → upto (λ v. closedb (p v) (closedAt cl v)) (length cl) ≡ true → (v i : ℕ) → closedAt cl v ≡ suc i → p v i ≡ true
-closed-at p cl e v i z = elim (decLe (suc v) (length cl)) [
-  | yes h ↦ subst (λ (x : ℕ). closedb (p v) x ≡ true) z (upto-at (λ v. closedb (p v) (closedAt cl v)) (length cl) e v h)
-  | no h ↦ absurd (omega (arith, z, List·getD-eq-default cl 0 (le-of-suc-le-suc (lt-of-not-le h))))
-]
+-- a test of a closed word
+closed-at : (p : ℕ → Bool) {x i : ℕ} → x ≡ suc i → closedb p x ≡ true → p i ≡ true
+closed-at p z e = subst (λ (x : ℕ). closedb p x ≡ true) z e
 
 word-at : (p : ℕ → Bool) (x : ℕ) → ((i : ℕ) → x ≡ suc i → p i ≡ true) → closedb p x ≡ true
 word-at p zero f = refl
@@ -89,70 +86,86 @@ at-hangs d ns cl i h =
 
 -- ---- a tree
 
-begun-at : (x : ℕ) (q : List ℕ) → (not (eqb x 0) || mem 0 q) ≡ true → (x ≢ 0) ⊎ List·Memᴰ 0 q
-begun-at x q e = elim (or-cases (not (eqb x 0)) (mem 0 q) e) [ inl z ↦ inl (differs-at x 0 z) | inr z ↦ inr (mem-listed 0 q z) ]
-
-at-begun : (x : ℕ) (q : List ℕ) → (x ≢ 0) ⊎ List·Memᴰ 0 q → (not (eqb x 0) || mem 0 q) ≡ true
-at-begun x q (inl z) = true-or-left (not (eqb x 0)) (mem 0 q) (at-differs x 0 z)
-at-begun x q (inr z) = true-or-right (not (eqb x 0)) (mem 0 q) (listed-mem 0 q z)
-
 module _ (d : Domain) (t : Tree) where
+  abbrev ns : List Node
+  ns = t .nodes
+
+  abbrev q : List ℕ
+  q = t .waiting
+
+  abbrev cl : List ℕ
+  cl = t .closed
+
+  closer-at : upto (closerb t) (length cl) ≡ true → (v i : ℕ) → closedAt cl v ≡ suc i
+      → (i < length ns) × ((node ns i) .vertex ≡ v) × ((j : ℕ) → List·Memᴰ j q → evaluation ns i ≤ evaluation ns j)
+  closer-at e v i z = elim (decLe (suc v) (length cl)) [
+    | yes h ↦
+        let b = and-true _ _ (upto-at (closerb t) (length cl) e v h) in
+        let p = and-true (ltb i (length ns)) (eqb ((node ns i) .vertex) v) (closed-at _ z (b .0)) in
+        (ltb-true _ _ (p .0), eqb-true _ _ (p .1), λ j w. leb-true _ _ (all-in-at _ q (closed-at _ z (b .1)) j w))
+    | no h ↦ absurd (omega (arith, z, List·getD-eq-default cl 0 (le-of-suc-le-suc (lt-of-not-le h))))
+  ]
+
+  begun-at : begunb t ≡ true → (closedAt cl (t .start) ≢ 0) ⊎ List·Memᴰ 0 q
+  begun-at e = elim (or-cases (not (eqb (closedAt cl (t .start)) 0)) (mem 0 q) e) [ inl z ↦ inl (differs-at _ 0 z) | inr z ↦ inr (mem-listed 0 q z) ]
+
+  at-begun : (closedAt cl (t .start) ≢ 0) ⊎ List·Memᴰ 0 q → begunb t ≡ true
+  at-begun (inl z) = true-or-left _ (mem 0 q) (at-differs (closedAt cl (t .start)) 0 z)
+  at-begun (inr z) = true-or-right (not (eqb (closedAt cl (t .start)) 0)) (mem 0 q) (listed-mem 0 q z)
+
+  onward-at : onwardAllb d t ≡ true → (v i l : ℕ) → closedAt cl v ≡ suc i → Usable (d .graph) l → from (d .graph) l ≡ v
+      → Reached ns q cl (to (d .graph) l) (evaluation ns i + weight d l)
+  onward-at a v i l z h e = reached-at ns q cl (to (d .graph) l) _
+      (closed-at _ (ap (closedAt cl) e ∙ z) (all-in-at (onwardb d t) (edgesInUse (d .graph)) a l (in-use-has (d .graph) l h)))
+
   pub sound-at : soundb d t ≡ true → Sound d t
   unfolding soundb
   sound-at e =
-      let ns : List Node = t .nodes in
-      let q : List ℕ = t .waiting in
-      let cl : List ℕ = t .closed in
-      let r = all-true (soundTests d t) e in
-      let r₃ = r .1 .1 .1 in
-      let r₆ = r₃ .1 .1 .1 in
-      let r₉ = r₆ .1 .1 .1 in
-      let r₁₂ = r₉ .1 .1 .1 in
+      let s = all-true (soundTests d t) e in
+      let root = all-true (rootTests d t) (s .1 .0) in
+      let waiting = all-true (waitingTests t) (s .1 .1 .1 .0) in
+      let closed = s .1 .1 .1 .1 in
       record {
-        some-node = ltb-true _ _ (r .0);
-        inside = ltb-true _ _ (r .1 .0);
-        allowed = differs-at (initialCost d (t .start)) absent (r .1 .1 .0);
-        root-vertex = eqb-true _ _ (r₃ .0);
-        root-cost = eqb-true _ _ (r₃ .1 .0);
-        root-parent = eqb-true _ _ (r₃ .1 .1 .0);
-        root-edge = eqb-true _ _ (r₆ .0);
-        hangs = all-hang d ns cl (length ns) (r₆ .1 .0);
-        queue = λ i m. ltb-true _ _ (all-in-at _ q (r₆ .1 .1 .0) i m);
-        ascends = ascends-at 0 q (r₉ .0);
-        sized = eqb-true _ _ (r₉ .1 .0);
-        closer = λ v i z.
-            let p = and-true (ltb i (length ns)) (eqb ((node ns i) .vertex) v) (closed-at (λ v i. ltb i (length ns) && eqb ((node ns i) .vertex) v) cl (r₉ .1 .1 .0) v i z) in
-            (ltb-true _ _ (p .0), eqb-true _ _ (p .1));
-        cheapest = λ v i j z w. leb-true _ _ (all-in-at _ q (closed-at (λ _ i. allIn (λ j. leb (evaluation ns i) (evaluation ns j)) q) cl (r₁₂ .0) v i z) j w);
-        few = leb-true _ _ (r₁₂ .1 .0);
-        begun = begun-at (closedAt cl (t .start)) q (r₁₂ .1 .1 .0);
-        onward = λ v i l z h e′. reached-at ns q cl (to (d .graph) l) _
-            (subst (λ (x : ℕ). closedb (λ i. reachedb ns q cl (to (d .graph) l) (evaluation ns i + weight d l)) x ≡ true) (ap (closedAt cl) e′ ∙ z)
-            (all-in-at _ (edgesInUse (d .graph)) (r₁₂ .1 .1 .1 .0) l (in-use-has (d .graph) l h)));
+        some-node = ltb-true _ _ (s .0);
+        inside = ltb-true _ _ (root .0);
+        allowed = differs-at (initialCost d (t .start)) absent (root .1 .0);
+        root-vertex = eqb-true _ _ (root .1 .1 .0);
+        root-cost = eqb-true _ _ (root .1 .1 .1 .0);
+        root-parent = eqb-true _ _ (root .1 .1 .1 .1 .0);
+        root-edge = eqb-true _ _ (root .1 .1 .1 .1 .1 .0);
+        hangs = all-hang d ns cl (length ns) (s .1 .1 .0);
+        queue = λ i m. ltb-true _ _ (all-in-at _ q (waiting .0) i m);
+        ascends = ascends-at 0 q (waiting .1 .0);
+        sized = eqb-true _ _ (closed .0);
+        closer = λ v i z. let c = closer-at (closed .1 .0) v i z in (c .0, c .1);
+        cheapest = λ v i j z w. closer-at (closed .1 .0) v i z .2 j w;
+        few = leb-true _ _ (closed .1 .1 .0);
+        begun = begun-at (closed .1 .1 .1 .0);
+        onward = onward-at (closed .1 .1 .1 .1 .0);
       }
 
   pub at-sound : Sound d t → soundb d t ≡ true
   unfolding soundb
   at-sound ok =
-      let ns : List Node = t .nodes in
-      let q : List ℕ = t .waiting in
-      let cl : List ℕ = t .closed in
       true-given (soundTests d t)
       (lt-ltb _ _ (ok .some-node))
+      (true-given (rootTests d t)
       (lt-ltb _ _ (ok .inside))
       (at-differs (initialCost d (t .start)) absent (ok .allowed))
       (eq-eqb _ _ (ok .root-vertex))
       (eq-eqb _ _ (ok .root-cost))
       (eq-eqb _ _ (ok .root-parent))
-      (eq-eqb _ _ (ok .root-edge))
+      (eq-eqb _ _ (ok .root-edge)))
       (at-upto _ (length ns) (λ i h. elim (ℕ-discrete i 0) [ yes z ↦ true-or-left _ _ (eq-eqb i 0 z) | no z ↦ true-or-right (eqb i 0) _ (at-hangs d ns cl i (ok .hangs i z h)) ]))
+      (true-given (waitingTests t)
       (at-all-in _ q (λ i m. lt-ltb _ _ (ok .queue i m)))
-      (at-ascends 0 q (ok .ascends))
+      (at-ascends 0 q (ok .ascends)))
       (eq-eqb _ _ (ok .sized))
-      (at-upto _ (length cl) (λ v h. word-at _ (closedAt cl v) (λ i z. true-and _ _ (lt-ltb _ _ (ok .closer v i z .0)) (eq-eqb _ _ (ok .closer v i z .1)))))
-      (at-upto _ (length cl) (λ v h. word-at _ (closedAt cl v) (λ i z. at-all-in _ q (λ j w. le-leb _ _ (ok .cheapest v i j z w)))))
+      (at-upto (closerb t) (length cl) (λ v h. true-and _ _
+      (word-at _ (closedAt cl v) (λ i z. true-and _ _ (lt-ltb _ _ (ok .closer v i z .0)) (eq-eqb _ _ (ok .closer v i z .1))))
+      (word-at _ (closedAt cl v) (λ i z. at-all-in _ q (λ j w. le-leb _ _ (ok .cheapest v i j z w))))))
       (le-leb _ _ (ok .few))
-      (at-begun (closedAt cl (t .start)) q (ok .begun))
+      (at-begun (ok .begun))
       (at-all-in _ (edgesInUse (d .graph)) (λ l m. word-at _ (closedAt cl (from (d .graph) l)) (λ i z. at-reached ns q cl (to (d .graph) l) _ (ok .onward (from (d .graph) l) i l z (in-use-mem (d .graph) l m) refl))))
 
 -- ---- no number stands twice

@@ -96,27 +96,59 @@ hangTests d ns cl i =
 unfoldable pub hangsb : Domain → List Node → List ℕ → ℕ → Bool
 hangsb d ns cl i = allb (hangTests d ns cl i)
 
+-- "node 0 is the root with its start cost, never `-` (backward 0)", of a tree that has a node
+abbrev pub rootTests : Domain → Tree → List Bool
+rootTests d t =
+    let x = node (t .nodes) 0 in
+    ltb (t .start) (vertexCount (d .graph))
+    ∷ not (eqb (initialCost d (t .start)) absent)
+    ∷ eqb (x .vertex) (t .start)
+    ∷ eqb (x .cost) (initialCost d (t .start))
+    ∷ eqb (x .parent) absent
+    ∷ eqb (x .edge) absent
+    ∷ []
+
+-- "each other node hangs .."
+abbrev pub hangAllb : Domain → Tree → Bool
+hangAllb d t = upto (λ i. eqb i 0 || hangsb d (t .nodes) (t .closed) i) (length (t .nodes))
+
+-- "queue words are distinct nodes"
+abbrev pub waitingTests : Tree → List Bool
+waitingTests t = allIn (λ i. ltb i (length (t .nodes))) (t .waiting) ∷ ascendsb 0 (t .waiting) ∷ []
+
+-- "a closed word names a node of that motif costing no more than any waiting node"
+abbrev pub closerb : Tree → ℕ → Bool
+closerb t v =
+    closedb (λ i. ltb i (length (t .nodes)) && eqb ((node (t .nodes) i) .vertex) v) (closedAt (t .closed) v)
+    && closedb (λ i. allIn (λ j. leb (evaluation (t .nodes) i) (evaluation (t .nodes) j)) (t .waiting)) (closedAt (t .closed) v)
+
+-- "nodes used are at most 1 plus the links leaving closed motifs"
+abbrev pub fewb : Domain → Tree → Bool
+fewb d t = leb (length (t .nodes)) (suc (length (closedEdges (d .graph) (t .closed))))
+
+-- "the root's motif is closed or the root waits"
+abbrev pub begunb : Tree → Bool
+begunb t = not (eqb (closedAt (t .closed) (t .start)) 0) || mem 0 (t .waiting)
+
+-- "each link leaving a closed motif reaches a motif closed, or waiting, at no more than the sum": of link l, and of all
+abbrev pub onwardb : Domain → Tree → ℕ → Bool
+onwardb d t l =
+    closedb (λ i. reachedb (t .nodes) (t .waiting) (t .closed) (to (d .graph) l) (evaluation (t .nodes) i + weight d l)) (closedAt (t .closed) (from (d .graph) l))
+
+abbrev pub onwardAllb : Domain → Tree → Bool
+onwardAllb d t = allIn (onwardb d t) (edgesInUse (d .graph))
+
 abbrev pub soundTests : Domain → Tree → List Bool
 soundTests d t =
-    let ns = t .nodes in
-    let q = t .waiting in
-    let cl = t .closed in
-    ltb 0 (length ns)
-    ∷ ltb (t .start) (vertexCount (d .graph))
-    ∷ not (eqb (initialCost d (t .start)) absent)
-    ∷ eqb ((node ns 0) .vertex) (t .start)
-    ∷ eqb ((node ns 0) .cost) (initialCost d (t .start))
-    ∷ eqb ((node ns 0) .parent) absent
-    ∷ eqb ((node ns 0) .edge) absent
-    ∷ upto (λ i. eqb i 0 || hangsb d ns cl i) (length ns)
-    ∷ allIn (λ i. ltb i (length ns)) q
-    ∷ ascendsb 0 q
-    ∷ eqb (length cl) (vertexCount (d .graph))
-    ∷ upto (λ v. closedb (λ i. ltb i (length ns) && eqb ((node ns i) .vertex) v) (closedAt cl v)) (length cl)
-    ∷ upto (λ v. closedb (λ i. allIn (λ j. leb (evaluation ns i) (evaluation ns j)) q) (closedAt cl v)) (length cl)
-    ∷ leb (length ns) (suc (length (closedEdges (d .graph) cl)))
-    ∷ (not (eqb (closedAt cl (t .start)) 0) || mem 0 q)
-    ∷ allIn (λ l. closedb (λ i. reachedb ns q cl (to (d .graph) l) (evaluation ns i + weight d l)) (closedAt cl (from (d .graph) l))) (edgesInUse (d .graph))
+    ltb 0 (length (t .nodes))
+    ∷ allb (rootTests d t)
+    ∷ hangAllb d t
+    ∷ allb (waitingTests t)
+    ∷ eqb (length (t .closed)) (vertexCount (d .graph))
+    ∷ upto (closerb t) (length (t .closed))
+    ∷ fewb d t
+    ∷ begunb t
+    ∷ onwardAllb d t
     ∷ []
 
 unfoldable pub soundb : Domain → Tree → Bool

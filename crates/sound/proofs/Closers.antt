@@ -11,13 +11,14 @@ use lib.ListN.{length, getD}
 use borrow.Author.Tests.{lt-ltb, le-ltb, eq-eqb, ne-eqb}
 use Rattle.model.specs.Lists.{allIn}
 use Rattle.model.specs.Tree.{Node, node, closedAt, evaluation}
+use Rattle.model.specs.Sound.{closerb, begunb}
 use Rattle.layout.specs.Layout.{nodeAt, queueAt, closedAt as closedWordsAt}
 use Rattle.layout.specs.Read.{treeIn}
 use Rattle.layout.proofs.Trees.{tree-nodes, tree-node}
 use Rattle.queue.specs.Queue.{evaluationIn}
 use Rattle.tree.specs.Tree.{treeOf, HasVertex}
 use Rattle.tree.proofs.Closed.{closed-word, node-cost}
-use Rattle.sound.specs.Check.{Waits, closerb, begunb, RootMarked}
+use Rattle.sound.specs.Check.{Waits, RootMarked}
 use Rattle.sound.proofs.Waiting.{mem-waiting, all-below-used, queued-node, none-waits, waiting-first}
 
 -- ---- the closed word of vertex v, where closed words stand from c on

@@ -14,7 +14,7 @@ use borrow.Author.Tests.{ltb-true, le-leb, lt-leb, eq-eqb, ne-eqb}
 use Rattle.model.specs.Lists.{numbers, those, allIn, upto}
 use Rattle.model.specs.Graph.{from, to, cost, vertexCount, edgeCount, edgesInUse}
 use Rattle.model.specs.Tree.{Tree, node, closedAt, evaluation}
-use Rattle.model.specs.Sound.{closedEdges, closedb, reachedb}
+use Rattle.model.specs.Sound.{closedEdges, closedb, reachedb, closerb, onwardb}
 use Rattle.model.proofs.Bools.{and-true, all-true, upto-at, at-upto, all-in-at, at-all-in}
 use Rattle.model.proofs.Lists.{up-length, numbers-mem, numbers-has, numbers-snoc, those-length, those-snoc}
 use Rattle.layout.specs.Layout.{nodeAt, edgeAt, closedAt as closedWordsAt}
@@ -25,7 +25,7 @@ use Rattle.layout.proofs.Trees.{tree-nodes, tree-closed}
 use Rattle.layout.specs.Sound.{queueTests}
 use Rattle.queue.specs.Queue.{evaluationIn}
 use Rattle.tree.proofs.Closed.{node-cost}
-use Rattle.sound.specs.Check.{closerb, onwardb, LeadsOn}
+use Rattle.sound.specs.Check.{LeadsOn}
 use Rattle.sound.proofs.Tests.{same-tests}
 use Rattle.sound.proofs.LeastCosts.{waits-within}
 

@@ -13,7 +13,7 @@ use lib.ListN.{length, getD}
 use Rattle.model.specs.Lists.{allb, upto}
 use Rattle.model.specs.Graph.{Graph, Domain, Direction, forward, backward, Accepted, from, to, cost, absent, vertexCount, edgeCount, initialBy, initialCost}
 use Rattle.model.specs.Tree.{Tree, Node, node, closedAt}
-use Rattle.model.specs.Sound.{Hangs, hangTests, hangsb}
+use Rattle.model.specs.Sound.{Hangs, hangTests, hangsb, rootTests, hangAllb}
 use Rattle.model.proofs.Bools.{AllTrue, all-true, true-or-right}
 use Rattle.model.proofs.Tests.{all-hang}
 use Rattle.model.proofs.Least.{hung-inside}
@@ -22,7 +22,7 @@ use Rattle.layout.specs.Layout.{initialAt, edgeAt, nodeAt}
 use Rattle.layout.specs.Read.{graphIn, directionOf, treeIn, domainOf}
 use Rattle.layout.proofs.Edges.{initial-word, vertex-count-in, edge-count-in, from-word, to-word, cost-word}
 use Rattle.layout.proofs.Trees.{nodeIn, tree-nodes, tree-node}
-use Rattle.sound.specs.Check.{countTests, Counted, rootCost, rootTests, hangAllb, Hung}
+use Rattle.sound.specs.Check.{countTests, Counted, rootCost, Hung}
 use Rattle.sound.proofs.Tests.{upto-fails, upto-passes, all-fails, read-last}
 
 -- ---- counts

@@ -7,10 +7,10 @@ use Prim.Native.Nat.{ℕ, _+_, _<_, _≤_}
 use native.Mathlib.Omega.{arith}
 use borrow.Author.Tests.{not-true, not-false, le-leb, lt-leb}
 use lib.ListN.{length, getD}
-use Rattle.model.specs.Lists.{allb, upto, allIn}
+use Rattle.model.specs.Lists.{allb, upto}
 use Rattle.model.specs.Graph.{Domain, edgeCount, edgesInUse}
 use Rattle.model.specs.Tree.{Tree}
-use Rattle.model.specs.Sound.{closedEdges}
+use Rattle.model.specs.Sound.{closedEdges, closerb, begunb, onwardAllb}
 use Rattle.model.proofs.Lists.{up-length, those-length}
 use Rattle.layout.specs.Layout.{closedAt as closedWordsAt}
 use Rattle.layout.specs.Read.{treeIn, domainOf}
@@ -19,7 +19,7 @@ use Rattle.layout.proofs.Trees.{tree-nodes}
 use Rattle.layout.specs.Sound.{queueTests}
 use Rattle.tree.specs.Tree.{treeOf}
 use Rattle.tree.proofs.Same.{tree-of}
-use Rattle.sound.specs.Check.{Areas, Counted, Hung, QueueWords, QueueIs, Waits, closerb, begunb, RootMarked, onwardb, LeadsOn, tablesTests}
+use Rattle.sound.specs.Check.{Areas, Counted, Hung, QueueWords, QueueIs, Waits, RootMarked, LeadsOn, tablesTests}
 use Rattle.sound.proofs.Tests.{all-fails, read-last}
 
 pub areas : {m l : ℕ} {ws t : List ℕ} → Counted m l ws t → Areas l t
@@ -96,7 +96,7 @@ module _ {m l : ℕ} {ws t : List ℕ} (h : Hung m l ws t) where
 
       -- the last answer, a, where all before it passed
       pub tables-last : {n k : ℕ} {a b : Bool} → n ≡ length (closedEdges (d .graph) (u .closed)) → k ≡ getD t 1 0 → k ≤ 1 + n
-          → b ≡ begunb (treeOf l t) → not b ≡ false → a ≡ allIn (onwardb d u) (edgesInUse (d .graph)) → a ≡ allb tests
+          → b ≡ begunb (treeOf l t) → not b ≡ false → a ≡ onwardAllb d u → a ≡ allb tests
       tables-last {b = b} en ek few eb begins ea =
           ea
           ∙ read-last {cs = tests} refl 4 refl

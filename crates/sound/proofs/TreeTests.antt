@@ -6,20 +6,20 @@ use mathlib.Core.Bool.{Bool, true, false, not, _&&_}
 use mathlib.Core.List.{List, [], _∷_}
 use Prim.Native.Nat.{ℕ}
 use native.Mathlib.Omega.{arith}
-use lib.Dec.{eqb, leb, ltb}
+use lib.Dec.{ltb}
 use lib.ListN.{length, getD}
 use borrow.Author.Tests.{ltb-true, leb-true, not-true, not-false, lt-ltb, eq-eqb}
 use Rattle.model.specs.Lists.{numbers, mem, allb, upto, allIn, ascendsb}
 use Rattle.model.specs.Graph.{Domain}
-use Rattle.model.specs.Tree.{Tree, node, closedAt, evaluation}
-use Rattle.model.specs.Sound.{closedb, soundTests, soundb}
-use Rattle.model.proofs.Bools.{and-true, true-and, all-true, true-given, upto-at, at-upto, at-all-in, at-ascends}
+use Rattle.model.specs.Tree.{Tree}
+use Rattle.model.specs.Sound.{rootTests, hangAllb, waitingTests, closerb, soundTests, soundb}
+use Rattle.model.proofs.Bools.{and-true, true-and, all-true, true-given, at-all-in, at-ascends}
 use Rattle.model.proofs.Lists.{up-ascends, numbers-mem, those-mem, those-ascends}
 use Rattle.layout.specs.Read.{treeIn, domainOf}
 use Rattle.layout.specs.Sound.{queueIn, formTests, formedb, treeWordsb, spareTests}
 use Rattle.layout.proofs.Edges.{vertex-count-in}
 use Rattle.layout.proofs.Trees.{tree-nodes, tree-closed-length}
-use Rattle.sound.specs.Check.{CanCheck, countTests, Counted, rootTests, hangAllb, Hung, closerb, tablesTests, Areas}
+use Rattle.sound.specs.Check.{CanCheck, countTests, Counted, Hung, tablesTests, Areas}
 use Rattle.sound.proofs.Tests.{same-tests, all-fails, read-last}
 use Rattle.sound.proofs.Nodes.{hung-at}
 use Rattle.sound.proofs.Tables.{areas}
@@ -37,13 +37,6 @@ module _ (m l : ℕ) (t : List ℕ) where
   waiting-ascends = at-ascends 0 (treeIn m l t .waiting) (those-ascends (λ n. mem n (queueIn l t)) 0 (numbers (getD t 1 0)) (up-ascends (getD t 1 0) 0))
 
 -- ---- the tests
-
--- two tests of each number are tests of all
-upto-both : (p q : ℕ → Bool) (n : ℕ) → upto (λ i. p i && q i) n ≡ (upto p n && upto q n)
-upto-both p q n =
-    same-tests _ _
-    (λ e. true-and _ _ (at-upto p n (λ i h. and-true (p i) (q i) (upto-at _ n e i h) .0)) (at-upto q n (λ i h. and-true (p i) (q i) (upto-at _ n e i h) .1)))
-    (λ e. let r = and-true (upto p n) (upto q n) e in at-upto _ n (λ i h. true-and (p i) (q i) (upto-at p n (r .0) i h) (upto-at q n (r .1) i h)))
 
 -- as the check makes them
 abbrev treeTests : Domain → ℕ → ℕ → List ℕ → List Bool
@@ -66,15 +59,8 @@ module _ (m l : ℕ) (ws t : List ℕ) (h : CanCheck m l ws t) where
   closed-length : length (u .closed) ≡ m
   closed-length = tree-closed-length m l t (omega (arith, h .len))
 
-  -- the two tests of closed words
-  abbrev namesb : ℕ → Bool
-  namesb v = closedb (λ i. ltb i (length (u .nodes)) && eqb ((node (u .nodes) i) .vertex) v) (closedAt (u .closed) v)
-
-  abbrev cheapestb : ℕ → Bool
-  cheapestb v = closedb (λ i. allIn (λ j. leb (evaluation (u .nodes) i) (evaluation (u .nodes) j)) (u .waiting)) (closedAt (u .closed) v)
-
-  closers : upto (closerb u) m ≡ (upto namesb (length (u .closed)) && upto cheapestb (length (u .closed)))
-  closers = ap (upto (closerb u)) (sym closed-length) ∙ upto-both namesb cheapestb (length (u .closed))
+  closers : upto (closerb u) (length (u .closed)) ≡ upto (closerb u) m
+  closers = ap (upto (closerb u)) closed-length
 
   some : ltb 0 (length (u .nodes)) ≡ ltb 0 (getD t 1 0)
   some = ap (ltb 0) (tree-nodes m l t)
@@ -85,19 +71,12 @@ module _ (m l : ℕ) (ws t : List ℕ) (h : CanCheck m l ws t) where
       let r = and-true (formedb l t) (soundb d u) e in
       let f = all-true (formTests l t) (r .0) in
       let s = all-true (soundTests d u) (r .1) in
-      let root = s .1 in
-      let hangs = root .1 .1 .1 .1 .1 .1 in
-      let closed = hangs .1 .1 .1 .1 in
+      let closed = s .1 .1 .1 .1 .1 in
       true-given (treeTests d m l t)
       (true-given (countTests l t) (sym some ∙ s .0) (f .0) (f .1 .0))
-      (true-given (rootTests d u) (root .0) (root .1 .0) (root .1 .1 .0) (root .1 .1 .1 .0) (root .1 .1 .1 .1 .0) (root .1 .1 .1 .1 .1 .0))
-      (hangs .0)
-      (true-given (tablesTests d m l t)
-      (f .1 .1 .0)
-      (closers ∙ true-and _ _ (closed .0) (closed .1 .0))
-      (closed .1 .1 .0)
-      (closed .1 .1 .1 .0)
-      (closed .1 .1 .1 .1 .0))
+      (s .1 .0)
+      (s .1 .1 .0)
+      (true-given (tablesTests d m l t) (f .1 .1 .0) (sym closers ∙ closed .0) (closed .1 .0) (closed .1 .1 .0) (closed .1 .1 .1 .0))
       (f .1 .1 .1 .0)
 
   passed : allb (treeTests d m l t) ≡ true → (formedb l t && soundb d u) ≡ true
@@ -105,25 +84,16 @@ module _ (m l : ℕ) (ws t : List ℕ) (h : CanCheck m l ws t) where
   passed e =
       let r = all-true (treeTests d m l t) e in
       let c = all-true (countTests l t) (r .0) in
-      let root = all-true (rootTests d u) (r .1 .0) in
       let tables = all-true (tablesTests d m l t) (r .1 .1 .1 .0) in
-      let closed = and-true _ _ (sym closers ∙ tables .1 .0) in
       true-and (formedb l t) (soundb d u)
       (true-given (formTests l t) (c .1 .0) (c .1 .1 .0) (tables .0) (r .1 .1 .1 .1 .0))
       (true-given (soundTests d u)
       (some ∙ c .0)
-      (root .0)
-      (root .1 .0)
-      (root .1 .1 .0)
-      (root .1 .1 .1 .0)
-      (root .1 .1 .1 .1 .0)
-      (root .1 .1 .1 .1 .1 .0)
+      (r .1 .0)
       (r .1 .1 .0)
-      (waiting-nodes m l t)
-      (waiting-ascends m l t)
+      (true-given (waitingTests u) (waiting-nodes m l t) (waiting-ascends m l t))
       (eq-eqb _ _ (closed-length ∙ sym (vertex-count-in m l ws (omega (arith, h .held .fits)))))
-      (closed .0)
-      (closed .1)
+      (closers ∙ tables .1 .0)
       (tables .1 .1 .0)
       (tables .1 .1 .1 .0)
       (tables .1 .1 .1 .1 .0))

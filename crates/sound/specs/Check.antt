@@ -1,15 +1,14 @@
--- What the functions of the check promise each other: each answers one clause of the definition, or a few.
+-- What the functions of the check promise each other: each answers one clause of the definition (model's Sound), or a few.
 -- Assumes nothing.
 use mathlib.Core.Path.{_≡_}
-use mathlib.Core.Bool.{Bool, true, false, not, _&&_, _||_}
+use mathlib.Core.Bool.{Bool, true, false, _&&_}
 use mathlib.Core.List.{List, [], _∷_}
-use Prim.Native.Nat.{ℕ, suc, _+_, _*_, _<_, _≤_, min}
+use Prim.Native.Nat.{ℕ, _+_, _*_, _<_, _≤_, min}
 use lib.Dec.{eqb, leb, ltb}
 use lib.ListN.{length, getD}
-use Rattle.model.specs.Lists.{mem, allb, upto, allIn}
-use Rattle.model.specs.Graph.{Domain, Direction, forward, backward, from, to, absent, vertexCount, edgesInUse, initialCost}
-use Rattle.model.specs.Tree.{Tree, node, closedAt, evaluation, weight}
-use Rattle.model.specs.Sound.{closedb, reachedb, hangsb, closedEdges, starts, distinctb}
+use Rattle.model.specs.Lists.{mem, allb, upto}
+use Rattle.model.specs.Graph.{Domain, Direction, forward, backward}
+use Rattle.model.specs.Sound.{closerb, fewb, begunb, onwardAllb, starts, distinctb}
 use Rattle.layout.specs.Layout.{Sized, placesAt, nodeAt, queueAt, closedAt as closedWordsAt, treeWords, slotAt, part}
 use Rattle.layout.specs.Read.{treeIn, treesIn, domainOf, readCache}
 use Rattle.layout.specs.Sound.{headerTests, graphTests, queueIn, treeWordsb, slotWords, queueTests}
@@ -37,23 +36,7 @@ abbrev pub rootCost : Direction → ℕ → ℕ
 rootCost forward c = c
 rootCost backward c = 0
 
--- "node 0 is the root with its start cost, never `-` (backward 0)"
-abbrev pub rootTests : Domain → Tree → List Bool
-rootTests d t =
-    let x = node (t .nodes) 0 in
-    ltb (t .start) (vertexCount (d .graph))
-    ∷ not (eqb (initialCost d (t .start)) absent)
-    ∷ eqb (x .vertex) (t .start)
-    ∷ eqb (x .cost) (initialCost d (t .start))
-    ∷ eqb (x .parent) absent
-    ∷ eqb (x .edge) absent
-    ∷ []
-
--- "each other node hangs .."
-abbrev pub hangAllb : Domain → Tree → Bool
-hangAllb d t = upto (λ i. eqb i 0 || hangsb d (t .nodes) (t .closed) i) (length (t .nodes))
-
--- so each node's vertex is one, and its cost is far below 2 ^ 32
+-- the nodes hang: each node's vertex is one, and its cost is far below 2 ^ 32
 pub record Hung (m l : ℕ) (ws t : List ℕ) : Type 0 where
   pub counted : Counted m l ws t
   pub start : getD t 0 0 < m
@@ -117,25 +100,10 @@ pub record Waits (l : ℕ) (t : List ℕ) : Type 0 where
   pub areas : Areas l t
   pub queue : allb (queueTests l t (getD t 2 0)) ≡ true
 
--- "a closed word names a node of that motif costing no more than any waiting node"
-abbrev pub closerb : Tree → ℕ → Bool
-closerb t v =
-    closedb (λ i. ltb i (length (t .nodes)) && eqb ((node (t .nodes) i) .vertex) v) (closedAt (t .closed) v)
-    && closedb (λ i. allIn (λ j. leb (evaluation (t .nodes) i) (evaluation (t .nodes) j)) (t .waiting)) (closedAt (t .closed) v)
-
--- "the root's motif is closed or the root waits"
-abbrev pub begunb : Tree → Bool
-begunb t = not (eqb (closedAt (t .closed) (t .start)) 0) || mem 0 (t .waiting)
-
 pub record RootMarked (l : ℕ) (t : List ℕ) (marks : List Bool) : Type 0 where
   pub waits : Waits l t
   pub start : HasVertex l t (getD t 0 0)
   pub marked : Marked marks 2049 (queueIn l t)
-
--- "each link leaving a closed motif reaches a motif closed, or waiting, at no more than the sum"
-abbrev pub onwardb : Domain → Tree → ℕ → Bool
-onwardb d t e =
-    closedb (λ i. reachedb (t .nodes) (t .waiting) (t .closed) (to (d .graph) e) (evaluation (t .nodes) i + weight d e)) (closedAt (t .closed) (from (d .graph) e))
 
 -- queue words and closed words passed, and the table is filled
 pub record LeadsOn (m l : ℕ) (ws t costs : List ℕ) : Type 0 where
@@ -150,9 +118,9 @@ tablesTests d m l t =
     let u = treeIn m l t in
     allb (queueTests l t (getD t 2 0))
     ∷ upto (closerb u) m
-    ∷ leb (length (u .nodes)) (suc (length (closedEdges (d .graph) (u .closed))))
+    ∷ fewb d u
     ∷ begunb u
-    ∷ allIn (onwardb d u) (edgesInUse (d .graph))
+    ∷ onwardAllb d u
     ∷ []
 
 -- ---- the whole

@@ -5,14 +5,13 @@ ghost use mathlib.Core.Path.{_≡_};
 ghost use mathlib.Core.Bool.{false};
 ghost use Prim.Native.Nat.{_+_, _<_, _≤_};
 ghost use lib.ListN.{length, getD, replicate};
-ghost use Rattle.model.specs.Lists.{allb, upto, allIn};
-ghost use Rattle.model.specs.Graph.{edgesInUse};
-ghost use Rattle.model.specs.Sound.{hangsb, closedEdges};
+ghost use Rattle.model.specs.Lists.{allb, upto};
+ghost use Rattle.model.specs.Sound.{hangsb, closedEdges, rootTests, hangAllb, closerb, begunb, onwardb, onwardAllb};
 ghost use Rattle.layout.specs.Layout.{initialAt, closedAt};
 ghost use Rattle.layout.specs.Read.{directionOf, treeIn, domainOf};
 ghost use Rattle.layout.specs.Sound.{zerosb, treeWordsb, spareTests};
 ghost use Rattle.tree.specs.Tree.{treeOf, HasVertex};
-ghost use Rattle.sound.specs.Check.{CanCheck, countTests, Counted, rootCost, rootTests, hangAllb, Hung, QueueWords, QueueTurn, QueueIs, Waits, closerb, begunb, RootMarked, onwardb, LeadsOn, tablesTests, Areas};
+ghost use Rattle.sound.specs.Check.{CanCheck, countTests, Counted, rootCost, Hung, QueueWords, QueueTurn, QueueIs, Waits, RootMarked, LeadsOn, tablesTests, Areas};
 
 // A tree has at most one node more than there are edges.
 const MAX_NODES: usize = 2049;
@@ -297,7 +296,7 @@ fn root_is_reached(tree: &[u32], edges: usize, marks: &[bool]) -> bool
 // Each edge that leaves a closed vertex reaches one that is closed, or waits, at no more than the sum.
 fn edges_lead_on(words: &[u32], vertices: usize, edges: usize, tree: &[u32], costs: &[u32]) -> bool
     requires { ⌜ LeadsOn vertices edges (now words) (now tree) (now costs) ⌝ }
-    ensures { λ r. ⌜ r ≡ allIn (onwardb (domainOf vertices edges (now (words .entry))) (treeIn vertices edges (now (tree .entry)))) (edgesInUse (domainOf vertices edges (now (words .entry)) .graph)) ⌝ }
+    ensures { λ r. ⌜ r ≡ onwardAllb (domainOf vertices edges (now (words .entry))) (treeIn vertices edges (now (tree .entry))) ⌝ }
 {
     let mut e = 0;
     while e < edges {

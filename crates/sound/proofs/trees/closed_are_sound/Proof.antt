@@ -7,8 +7,8 @@ use native.Mathlib.Omega.{arith}
 use borrow.Author.Needs.{needs}
 use borrow.Author.Tests.{not-true, not-false}
 use Rattle.model.specs.Lists.{upto}
+use Rattle.model.specs.Sound.{closerb}
 use Rattle.tree.specs.Tree.{treeOf}
-use Rattle.sound.specs.Check.{closerb}
 use Rattle.sound.proofs.Tests.{upto-fails, upto-passes}
 use Rattle.sound.proofs.trees.closed_are_sound.Statement.{statement}
 use Rattle.sound.proofs.trees.closed_are_sound.Tie as tie

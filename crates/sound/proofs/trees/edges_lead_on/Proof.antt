@@ -7,8 +7,8 @@ use native.Mathlib.Omega.{arith}
 use borrow.Author.Needs.{needs}
 use borrow.Author.Tests.{not-true, not-false}
 use Rattle.model.specs.Lists.{upto}
+use Rattle.model.specs.Sound.{onwardb}
 use Rattle.layout.specs.Read.{treeIn, domainOf}
-use Rattle.sound.specs.Check.{onwardb}
 use Rattle.sound.proofs.Tests.{upto-fails, upto-passes}
 use Rattle.sound.proofs.Edges.{all-edges}
 use Rattle.sound.proofs.trees.edges_lead_on.Statement.{statement}

@@ -8,8 +8,8 @@ use borrow.Author.Tests.{eq-eqb, ne-eqb}
 use lib.Dec.{eqb}
 use lib.ListN.{getD}
 use Rattle.model.specs.Graph.{absent}
+use Rattle.model.specs.Sound.{rootTests}
 use Rattle.layout.specs.Read.{treeIn, domainOf}
-use Rattle.sound.specs.Check.{rootTests}
 use Rattle.sound.proofs.Tests.{read-fails, read-last, read-below, read-same, read-differ}
 use Rattle.sound.proofs.Nodes.{rootWords, root-outside, root-words}
 use Rattle.sound.proofs.trees.root_is_sound.Statement.{statement}
