@@ -4,6 +4,7 @@ use mathlib.Core.Path.{_≡_}
 use mathlib.Core.List.{List}
 use Prim.Native.Nat.{ℕ, _≤_}
 use lib.ListN.{length, getD}
+use Rattle.model.specs.Limits.{slotLimit}
 use Rattle.model.specs.declared.OpenAnswer.{OpenAnswer}
 use Rattle.model.specs.declared.OpenAnswer.the-variants.{Opened, Refused}
 use Rattle.model.specs.declared.Refusal.{Refusal}
@@ -23,7 +24,7 @@ pub record Opens (ws text : List ℕ) (d t : ℕ) (left : List ℕ) : Type 0 whe
   pub read : readGraph text ≡ answered graph
   pub accepted : Accepted graph
   pub direction : d ≤ 1
-  pub slots : (1 ≤ t) × (t ≤ 64)
+  pub slots : (1 ≤ t) × (t ≤ slotLimit)
   pub fits : needed (vertexCount graph) (edgeCount graph) t ≤ length ws
   pub words : left ≡ written (openedWords (directionOf d) graph t) ws
   pub cache : readCache left ≡ opened (directionOf d) graph t

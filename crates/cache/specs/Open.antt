@@ -7,6 +7,7 @@ use mathlib.Core.Option.{Option, none, some}
 use Prim.Native.Nat.{ℕ, _≤_}
 use lib.Dec.{leb, ltb}
 use lib.ListN.{length}
+use Rattle.model.specs.Limits.{slotLimit}
 use Rattle.model.specs.declared.OpenAnswer.{OpenAnswer}
 use Rattle.model.specs.Answers.{Reply, answered, refused, openReply}
 use Rattle.model.specs.Graph.{Graph, vertexCount, edgeCount}
@@ -25,7 +26,7 @@ pub record AfterOpen : Type 0 where
 abbrev pub measureFaults : ℕ → ℕ → List Fault
 measureFaults direction slots =
     record { number = 4; given = ltb 1 direction }
-    ∷ record { number = 4; given = not (leb 1 slots && leb slots 64) }
+    ∷ record { number = 4; given = not (leb 1 slots && leb slots slotLimit) }
     ∷ []
 
 -- "then 5": "the slice is shorter than the formula"; else the words of an opened cache, and "words past that are never written"
@@ -62,4 +63,4 @@ Opening ws text direction slots r left = afterOpen r left ≡ openCache ws text 
 pub record CanOpen (text : List ℕ) (dir t : ℕ) (z : Counts) : Type 0 where
   pub judged : judge text ≡ answered z
   pub direction : dir ≤ 1
-  pub slots : t ≤ 64
+  pub slots : t ≤ slotLimit

@@ -1,6 +1,7 @@
 // A cache: the words that a board lends for one direction's graph and trees.
 use model::OpenAnswer;
 use model::Refusal;
+use model::limits::MAX_SLOTS;
 use text::counts::Counts;
 use text::counts::Judged;
 use text::counts::judge;
@@ -8,6 +9,7 @@ ghost use mathlib.Core.Path.{_≡_};
 ghost use mathlib.Core.List.{_∷_, [], _++_};
 ghost use Prim.Native.Nat.{_≤_};
 ghost use lib.ListN.{length, drop, replicate};
+ghost use Rattle.model.specs.Limits.{slotLimit};
 ghost use Rattle.model.specs.Answers.{answered};
 ghost use Rattle.text.specs.Read.{graphOf};
 ghost use Rattle.layout.specs.Layout.{Sized};
@@ -24,7 +26,7 @@ pub fn open(words: &mut [u32], text: &[u8], direction: u32, slots: usize) -> Ope
     if slots == 0 {
         return refused(Refusal::OverLimit);
     }
-    if layout::MAX_SLOTS < slots {
+    if MAX_SLOTS < slots {
         return refused(Refusal::OverLimit);
     }
     match judge(text) {
@@ -65,7 +67,7 @@ fn open_sized(
 }
 
 fn write_header(words: &mut [u32], direction: u32, vertices: usize, edges: usize, slots: usize)
-    requires { ⌜ (5 ≤ length (now words)) × (Sized vertices edges × (slots ≤ 64)) ⌝ }
+    requires { ⌜ (5 ≤ length (now words)) × (Sized vertices edges × (slots ≤ slotLimit)) ⌝ }
     ensures { λ _. ⌜ now (words .exit) ≡ (direction ∷ vertices ∷ edges ∷ slots ∷ 0 ∷ []) ++ drop 5 (now (words .entry)) ⌝ }
 {
     words[layout::DIRECTION] = direction;

@@ -7,6 +7,7 @@ use mathlib.Core.List.{List, [], _∷_}
 use Prim.Native.Nat.{ℕ, _+_, _-_, _*_, _≤_}
 use lib.Dec.{ltb}
 use lib.ListN.{length, getD, drop}
+use Rattle.model.specs.Limits.{listLimit}
 use Rattle.model.specs.declared.Refusal.{Refusal}
 use Rattle.model.specs.declared.Refusal.the-variants.{TreesFull}
 use Rattle.model.specs.declared.InitializeAnswer.the-variants as initializing
@@ -95,7 +96,7 @@ notOpened f = record { answer = initializing.Refused f 0; search = emptySearch }
 
 pub record CanOpenSearch (ws vs gs : List ℕ) : Type 0 where
   pub plan : CanPlan ws vs
-  pub goals : length gs ≤ 64
+  pub goals : length gs ≤ listLimit
 
 -- "distinct new trees outnumber unused slots"
 abbrev pub isFull : List ℕ → List ℕ → Bool
@@ -114,7 +115,7 @@ abbrev pub OpensSearch : List ℕ → List ℕ → List ℕ → SearchOpened →
 OpensSearch ws vs gs r left = OpensIf (isFull ws vs) ws vs gs r left
 
 pub record CanTakeGoals (s : Search) (gs : List ℕ) : Type 0 where
-  pub room : s .«goal_count» + length gs ≤ 64
+  pub room : s .«goal_count» + length gs ≤ listLimit
 
 abbrev pub withGoals : Search → List ℕ → Search
 withGoals s [] = s

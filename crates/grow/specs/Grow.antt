@@ -7,6 +7,7 @@ use mathlib.Core.List.{List}
 use Prim.Native.Nat.{ℕ, _+_, _<_, _≤_}
 use lib.Dec.{eqb}
 use lib.ListN.{length, getD, set}
+use Rattle.model.specs.Limits.{slotLimit}
 use Rattle.model.specs.declared.CostBound.{CostBound}
 use Rattle.model.specs.Lists.{mem}
 use Rattle.model.specs.Graph.{Domain, choices}
@@ -66,7 +67,7 @@ slotOf ws i =
 
 -- the places are those of the slot
 pub record SlotIs (s : Slot) : Type 0 where
-  pub few : s .number < 64
+  pub few : s .number < slotLimit
   pub at : s .at ≡ slotAt (s .vertices) (s .edges) (s .number)
   pub end : s .end ≡ slotAt (s .vertices) (s .edges) (s .number) + treeWords (s .vertices) (s .edges)
 

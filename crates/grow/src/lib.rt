@@ -11,6 +11,7 @@ use tree::partial_keyed_closed_set::close;
 ghost use mathlib.Core.Path.{_≡_};
 ghost use Prim.Native.Nat.{_<_, _≤_};
 ghost use lib.ListN.{length, getD};
+ghost use Rattle.model.specs.Limits.{slotLimit};
 ghost use Rattle.model.specs.Lists.{mem};
 ghost use Rattle.model.specs.Graph.{choices};
 ghost use Rattle.model.specs.Tree.{pushAll, pushNode, child, above};
@@ -84,7 +85,7 @@ pub fn grow(words: &mut [u32], slot: usize, goals: &[u32], bound: CostBound) -> 
 }
 
 pub fn slot_of(words: &[u32], slot: usize) -> Slot
-    requires { ⌜ (5 ≤ length (now words)) × (Sized (getD (now words) 1 0) (getD (now words) 2 0) × (slot < 64)) ⌝ }
+    requires { ⌜ (5 ≤ length (now words)) × (Sized (getD (now words) 1 0) (getD (now words) 2 0) × (slot < slotLimit)) ⌝ }
     ensures { λ r. ⌜ r ≡ slotOf (now (words .entry)) slot ⌝ }
 {
     let vertices = layout::header(words, layout::VERTICES);

@@ -3,6 +3,7 @@
 use mathlib.Core.List.{List}
 use Prim.Native.Nat.{ℕ, _+_, _*_, _<_, _≤_}
 use lib.ListN.{take, drop}
+use Rattle.model.specs.Limits.{vertexLimit, edgeLimit}
 
 -- "Header, 5 words: direction, M, L, T, trees in use."
 abbrev pub headerWords : ℕ
@@ -62,8 +63,8 @@ part a n ws = take n (drop a ws)
 
 -- 01's limits
 pub record Sized (m l : ℕ) : Type 0 where
-  pub vertices : m ≤ 1024
-  pub edges : l ≤ 2048
+  pub vertices : m ≤ vertexLimit
+  pub edges : l ≤ edgeLimit
 
 -- n words hold the word k of node i
 pub record NodeWord (n i k : ℕ) : Type 0 where
@@ -72,7 +73,7 @@ pub record NodeWord (n i k : ℕ) : Type 0 where
 
 -- n words hold the word k of edge e
 pub record EdgeWord (n m e k : ℕ) : Type 0 where
-  pub vertices : m ≤ 1024
-  pub edge : e < 2048
+  pub vertices : m ≤ vertexLimit
+  pub edge : e < edgeLimit
   pub word : k < 3
   pub within : edgeAt m e + k < n

@@ -5,6 +5,7 @@ use mathlib.Core.List.{List, [], _∷_}
 use Prim.Native.Nat.{ℕ, _+_, _-_, _/_}
 use lib.Dec.{eqb, leb, ltb}
 use lib.ListN.{length, getD, drop}
+use Rattle.model.specs.Limits.{vertexLimit, edgeLimit, costLimit, slotLimit}
 use Rattle.model.specs.Lists.{allb, allBelow, upto}
 use Rattle.model.specs.Graph.{Graph, Domain, from, to, cost, absent, vertexCount, edgeCount, edgeNumbers}
 use Rattle.model.specs.Tree.{Node, precedes}
@@ -32,21 +33,21 @@ abbrev pub headerTests : List ℕ → List Bool
 headerTests ws =
     leb headerWords (length ws)
     ∷ leb (getD ws 0 0) 1
-    ∷ leb (getD ws 1 0) 1024
-    ∷ leb (getD ws 2 0) 2048
+    ∷ leb (getD ws 1 0) vertexLimit
+    ∷ leb (getD ws 2 0) edgeLimit
     ∷ leb 1 (getD ws 3 0)
-    ∷ leb (getD ws 3 0) 64
+    ∷ leb (getD ws 3 0) slotLimit
     ∷ leb (getD ws 4 0) (getD ws 3 0)
     ∷ leb (needed (getD ws 1 0) (getD ws 2 0) (getD ws 3 0)) (length ws)
     ∷ []
 
 -- an initial cost: "4294967295 for `-`", or at most 999,999
 abbrev pub initialb : ℕ → Bool
-initialb c = eqb c absent || leb c 999999
+initialb c = eqb c absent || leb c costLimit
 
 -- an edge: its ends are vertices, its cost is at most 999,999
 abbrev pub edgeTests : Graph → ℕ → List Bool
-edgeTests g e = ltb (from g e) (vertexCount g) ∷ ltb (to g e) (vertexCount g) ∷ leb (cost g e) 999999 ∷ []
+edgeTests g e = ltb (from g e) (vertexCount g) ∷ ltb (to g e) (vertexCount g) ∷ leb (cost g e) costLimit ∷ []
 
 -- first places and edge numbers are those of the edges that stand before them
 abbrev pub indexTests : Domain → List ℕ → List Bool

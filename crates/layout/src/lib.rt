@@ -3,10 +3,8 @@
 ghost use mathlib.Core.Path.{_≡_};
 ghost use Prim.Native.Nat.{_+_, _*_, _<_, _≤_};
 ghost use lib.ListN.{length, getD};
+ghost use Rattle.model.specs.Limits.{vertexLimit, edgeLimit, slotLimit};
 ghost use Rattle.layout.specs.Layout.{headerWords, initialAt, edgesAt, edgeAt, placesAt, numbersAt, slotsAt, nodeAt, queueAt, closedAt, treeWords, slotAt, needed, Sized, EdgeWord, NodeWord};
-
-// 01's limit of tree slots.
-pub const MAX_SLOTS: usize = 64;
 
 // No initial cost; also the parent and the edge of a root.
 pub const ABSENT: u32 = 4294967295;
@@ -49,14 +47,14 @@ pub const NODE_EDGE: usize = 3;
 pub const INITIAL_AT: usize = 5;
 
 pub fn edges_at(vertices: usize) -> usize
-    requires { ⌜ vertices ≤ 1024 ⌝ }
+    requires { ⌜ vertices ≤ vertexLimit ⌝ }
     ensures { λ r. ⌜ r ≡ edgesAt vertices ⌝ }
 {
     INITIAL_AT + vertices
 }
 
 pub fn edge_at(vertices: usize, edge: usize) -> usize
-    requires { ⌜ (vertices ≤ 1024) × (edge ≤ 2048) ⌝ }
+    requires { ⌜ (vertices ≤ vertexLimit) × (edge ≤ edgeLimit) ⌝ }
     ensures { λ r. ⌜ r ≡ edgeAt vertices edge ⌝ }
 {
     edges_at(vertices) + 3 * edge
@@ -87,14 +85,14 @@ pub fn slots_at(vertices: usize, edges: usize) -> usize
 pub const NODES_AT: usize = 3;
 
 pub fn queue_at(edges: usize) -> usize
-    requires { ⌜ edges ≤ 2048 ⌝ }
+    requires { ⌜ edges ≤ edgeLimit ⌝ }
     ensures { λ r. ⌜ r ≡ queueAt edges ⌝ }
 {
     NODES_AT + 4 * (1 + edges)
 }
 
 pub fn closed_at(edges: usize) -> usize
-    requires { ⌜ edges ≤ 2048 ⌝ }
+    requires { ⌜ edges ≤ edgeLimit ⌝ }
     ensures { λ r. ⌜ r ≡ closedAt edges ⌝ }
 {
     queue_at(edges) + (1 + edges)
@@ -108,14 +106,14 @@ pub fn tree_words(vertices: usize, edges: usize) -> usize
 }
 
 pub fn slot_at(vertices: usize, edges: usize, slot: usize) -> usize
-    requires { ⌜ Sized vertices edges × (slot ≤ 64) ⌝ }
+    requires { ⌜ Sized vertices edges × (slot ≤ slotLimit) ⌝ }
     ensures { λ r. ⌜ r ≡ slotAt vertices edges slot ⌝ }
 {
     slots_at(vertices, edges) + slot * tree_words(vertices, edges)
 }
 
 pub fn words_needed(vertices: usize, edges: usize, slots: usize) -> usize
-    requires { ⌜ Sized vertices edges × (slots ≤ 64) ⌝ }
+    requires { ⌜ Sized vertices edges × (slots ≤ slotLimit) ⌝ }
     ensures { λ r. ⌜ r ≡ needed vertices edges slots ⌝ }
 {
     slot_at(vertices, edges, slots)

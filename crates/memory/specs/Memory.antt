@@ -5,6 +5,7 @@ use mathlib.Core.Bool.{Bool, not, _||_}
 use mathlib.Core.List.{List, [], _∷_}
 use Prim.Native.Nat.{ℕ, _<_, _≤_}
 use lib.ListN.{length, getD}
+use Rattle.model.specs.Limits.{listLimit}
 use Rattle.model.specs.declared.CostBound.{CostBound}
 use Rattle.model.specs.declared.CostBound.the-variants.{Bound}
 use Rattle.model.specs.declared.Solution.the-variants.{At}
@@ -34,10 +35,10 @@ pub record HasVertices (l : ℕ) (t : List ℕ) : Type 0 where
 
 -- the counts of a record are within its arrays, of 64 each
 pub record Listed (s : Search) : Type 0 where
-  pub trees : length (s .trees) ≡ 64
-  pub entries : s .«tree_count» ≤ 64
-  pub keys : length (s .«goal_keys») ≡ 64
-  pub goals : s .«goal_count» ≤ 64
+  pub trees : length (s .trees) ≡ listLimit
+  pub entries : s .«tree_count» ≤ listLimit
+  pub keys : length (s .«goal_keys») ≡ listLimit
+  pub goals : s .«goal_count» ≤ listLimit
 
 -- the solution that an entry holds is a node of its tree, one of ts
 pub record Holds (ts : List Tree) (e : TreeMemory) : Type 0 where

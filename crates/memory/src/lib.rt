@@ -8,6 +8,7 @@ use model::KnownLen;
 use model::Search;
 use model::Solution;
 use model::TreeMemory;
+use model::limits::MAX_ENTRIES;
 use tree::partial_keyed_closed_set::ClosedStatus;
 use tree::partial_keyed_closed_set::status;
 ghost use mathlib.Core.Path.{_≡_};
@@ -20,9 +21,6 @@ ghost use Rattle.tree.specs.Tree.{treeOf};
 ghost use Rattle.sound.specs.Facts.{SoundWords};
 ghost use Rattle.grow.specs.Grow.{InUse};
 ghost use Rattle.memory.specs.Memory.{HasNode, HasVertices, CanJudge, bestNodeTests};
-
-// 01's limit of entries, and of goals.
-pub const MAX_ENTRIES: usize = 64;
 
 // Whether a record is not strange. All of it is looked at in this one function, for each that it is handed to copies it.
 pub fn is_valid(words: &[u32], search: Search) -> bool

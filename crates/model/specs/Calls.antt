@@ -7,6 +7,7 @@ use mathlib.Core.Option.{Option, none, some}
 use Prim.Native.Nat.{ℕ, _+_, _-_, _*_, _≤_}
 use lib.Dec.{leb, ltb}
 use lib.ListN.{length, drop}
+use Rattle.model.specs.Limits.{listLimit}
 use Rattle.model.specs.declared.Solution.{Solution}
 use Rattle.model.specs.declared.Solution.the-variants.{Unsolved, At}
 use Rattle.model.specs.declared.BestSolution.{BestSolution}
@@ -72,7 +73,7 @@ plantedFor c ss gs = plantAll (c .domain) (c .trees) (rootsOf (c .domain .direct
 abbrev pub initializeFaults : Cache → List ℕ → List ℕ → List Fault
 initializeFaults c ss gs =
     let m = vertexCount (c .domain .graph) in
-    record { number = 4; given = not (leb (length ss) 64 && leb (length gs) 64) }
+    record { number = 4; given = not (leb (length ss) listLimit && leb (length gs) listLimit) }
     ∷ record { number = 3; given = not (allBelow m ss && allBelow m gs) }
     ∷ record { number = 6; given = ltb (c .slots - length (c .trees)) (length (plantedFor c ss gs .trees) - length (c .trees)) }
     ∷ []

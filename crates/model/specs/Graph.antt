@@ -8,6 +8,7 @@ use mathlib.Core.List.{List, [], _∷_, map}
 use Prim.Native.Nat.{ℕ, _+_, _<_, _≤_}
 use lib.Dec.{eqb, ltb}
 use lib.ListN.{length, getD}
+use Rattle.model.specs.Limits.{vertexLimit, edgeLimit, costLimit}
 use Rattle.model.specs.Lists.{numbers, those, joined, mem}
 
 pub record Edge : Type 0 where
@@ -54,12 +55,12 @@ edgesInUse g = numbers (edgeCount g)
 
 -- "At most 1,024 motifs and 2,048 links; start cost and picks at most 999,999", and each edge's ends are vertices
 pub record Accepted (g : Graph) : Type 0 where
-  pub vertices : vertexCount g ≤ 1024
-  pub edges : edgeCount g ≤ 2048
-  pub starts : (v : ℕ) → (getD (g .initial) v absent ≡ absent) ⊎ (getD (g .initial) v absent ≤ 999999)
+  pub vertices : vertexCount g ≤ vertexLimit
+  pub edges : edgeCount g ≤ edgeLimit
+  pub starts : (v : ℕ) → (getD (g .initial) v absent ≡ absent) ⊎ (getD (g .initial) v absent ≤ costLimit)
   pub leaves : (l : ℕ) → Usable g l → from g l < vertexCount g
   pub enters : (l : ℕ) → Usable g l → to g l < vertexCount g
-  pub costs : (l : ℕ) → Usable g l → cost g l ≤ 999999
+  pub costs : (l : ℕ) → Usable g l → cost g l ≤ costLimit
 
 -- ---- paths, read off the graph alone
 

@@ -6,6 +6,7 @@ use mathlib.Core.Option.{Option, none, some}
 use Prim.Native.Nat.{ℕ, zero, suc, _+_, _-_}
 use lib.Dec.{eqb, ltb}
 use lib.ListN.{length, getD, set, take, replicate}
+use Rattle.model.specs.Limits.{listLimit}
 use Rattle.model.specs.declared.CostBound.{CostBound}
 use Rattle.model.specs.declared.CostBound.the-variants.{Unbounded, Bound}
 use Rattle.model.specs.declared.KnownLen.{KnownLen}
@@ -293,9 +294,9 @@ goalsOf backward ss gs = startsOf ss
 abbrev pub emptySearch : Search
 emptySearch =
     record {
-      trees = replicate 64 blank;
+      trees = replicate listLimit blank;
       «tree_count» = 0;
-      «goal_keys» = replicate 64 0;
+      «goal_keys» = replicate listLimit 0;
       «goal_count» = 0;
       «best_solution» = NoBest;
       exhausted = false;
@@ -305,9 +306,9 @@ emptySearch =
 abbrev pub newSearch : List TreeMemory → List ℕ → Search
 newSearch es gs =
     record {
-      trees = es ++ replicate (64 - length es) blank;
+      trees = es ++ replicate (listLimit - length es) blank;
       «tree_count» = length es;
-      «goal_keys» = gs ++ replicate (64 - length gs) 0;
+      «goal_keys» = gs ++ replicate (listLimit - length gs) 0;
       «goal_count» = length gs;
       «best_solution» = NoBest;
       exhausted = false;

@@ -5,6 +5,7 @@ use mathlib.Core.List.{List, [], _∷_}
 use Prim.Native.Nat.{ℕ, suc}
 use lib.Dec.{eqb, leb, ltb}
 use lib.ListN.{length}
+use Rattle.model.specs.Limits.{listLimit}
 use Rattle.model.specs.declared.CostBound.{CostBound}
 use Rattle.model.specs.declared.CostBound.the-variants.{Unbounded, Bound}
 use Rattle.model.specs.declared.KnownLen.{KnownLen}
@@ -23,7 +24,7 @@ use Rattle.model.specs.Search.{entry, entries, goals, solutionCost, boun
 
 -- "or a list 64": at most 64 entries and 64 goals. That the arrays have 64 elements is so of every struct
 abbrev pub listTests : Search → List Bool
-listTests s = eqb (length (s .trees)) 64 ∷ leb (s .«tree_count») 64 ∷ eqb (length (s .«goal_keys»)) 64 ∷ leb (s .«goal_count») 64 ∷ []
+listTests s = eqb (length (s .trees)) listLimit ∷ leb (s .«tree_count») listLimit ∷ eqb (length (s .«goal_keys»)) listLimit ∷ leb (s .«goal_count») listLimit ∷ []
 
 -- "a remembered count passes M"
 abbrev pub knownWithin : Domain → KnownLen → Bool

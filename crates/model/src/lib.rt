@@ -1,7 +1,11 @@
 // The types that cross crates. What they mean stands in specs/: a definition gives each refusal and each status
 // document 01's number and values, and the promises of the calls use that definition.
+pub mod limits;
+
+use crate::limits::MAX_ENTRIES;
 ghost use mathlib.Core.Path.{_≡_};
 ghost use Prim.Native.Nat.{_<_};
+ghost use Rattle.model.specs.Limits.{listLimit};
 ghost use Rattle.model.specs.Answers.{number as Answers·number};
 ghost use Rattle.model.specs.Search.{emptySearch, withEntry, withGoal, withTurn, withExhausted};
 
@@ -70,9 +74,9 @@ pub struct TreeMemory {
 
 // The Rust's `Memory`; 01 calls it the search record.
 pub struct Search {
-    pub trees: [TreeMemory; 64],
+    pub trees: [TreeMemory; MAX_ENTRIES],
     pub tree_count: usize,
-    pub goal_keys: [u32; 64],
+    pub goal_keys: [u32; MAX_ENTRIES],
     pub goal_count: usize,
     pub best_solution: BestSolution,
     pub exhausted: bool,
@@ -89,9 +93,9 @@ impl Search {
                 tree: 0,
                 last_known_closed_len: KnownLen::Never,
                 solution: Solution::Unsolved,
-            }; 64],
+            }; MAX_ENTRIES],
             tree_count: 0,
-            goal_keys: [0; 64],
+            goal_keys: [0; MAX_ENTRIES],
             goal_count: 0,
             best_solution: BestSolution::NoBest,
             exhausted: false,
@@ -100,7 +104,7 @@ impl Search {
 
     // One entry more, of the tree in a slot.
     pub fn with_entry(mut self, tree: usize) -> Search
-        requires { ⌜ self .«tree_count» < 64 ⌝ }
+        requires { ⌜ self .«tree_count» < listLimit ⌝ }
         ensures { λ r. ⌜ r ≡ withEntry self tree ⌝ }
     {
         let i = self.tree_count;
@@ -115,7 +119,7 @@ impl Search {
 
     // One goal more.
     pub fn with_goal(mut self, vertex: u32) -> Search
-        requires { ⌜ self .«goal_count» < 64 ⌝ }
+        requires { ⌜ self .«goal_count» < listLimit ⌝ }
         ensures { λ r. ⌜ r ≡ withGoal self vertex ⌝ }
     {
         let i = self.goal_count;
@@ -133,7 +137,7 @@ impl Search {
         best_solution: BestSolution,
         exhausted: bool,
     ) -> Search
-        requires { ⌜ entry < 64 ⌝ }
+        requires { ⌜ entry < listLimit ⌝ }
         ensures { λ r. ⌜ r ≡ withTurn self entry memory «best_solution» exhausted ⌝ }
     {
         let mut trees = self.trees;

@@ -8,6 +8,7 @@ use Prim.Native.Nat.{ℕ, zero, suc, _+_, _<_, _≤_}
 use lib.Dec.{eqb}
 use lib.ListN.{length, getD, set, take, replicate}
 use lib.Seq.{sets}
+use Rattle.model.specs.Limits.{vertexLimit, listLimit}
 use Rattle.model.specs.Graph.{Domain, absent, initialCost}
 use Rattle.model.specs.Tree.{Tree, newTree}
 use Rattle.model.specs.Sound.{SoundTrees}
@@ -61,7 +62,7 @@ Plants ws v left = PlantsAll ws (v ∷ []) left
 -- at most 64 roots, each a vertex
 pub record CanPlan (ws vs : List ℕ) : Type 0 where
   pub sound : SoundWords ws
-  pub few : length vs ≤ 64
+  pub few : length vs ≤ listLimit
   pub vertices : (i : ℕ) → i < length vs → getD vs i 0 < getD ws 1 0
 
 -- the model's planting, in the cache that the words hold
@@ -71,9 +72,9 @@ plantedIn ws vs = let c = readCache ws in plantAll (c .domain) (c .trees) vs
 -- the entries are the model's, and its trees are those there and the new ones
 pub record Plans (ws vs : List ℕ) (r : Planned) : Type 0 where
   pub search : r .search ≡ newSearch (plantedIn ws vs .entries) []
-  pub few : length (plantedIn ws vs .entries) ≤ 64
-  pub count : r .count ≤ 64
-  pub starts : length (r .starts) ≡ 64
+  pub few : length (plantedIn ws vs .entries) ≤ listLimit
+  pub count : r .count ≤ listLimit
+  pub starts : length (r .starts) ≡ listLimit
   pub trees : plantedIn ws vs .trees ≡ withNew (readCache ws .domain) (readCache ws .trees) (take (r .count) (r .starts))
 
 -- a slot as a word: 0 for none, else one more
@@ -83,18 +84,18 @@ slotWord (some i) = suc i
 
 -- for each vertex the slot of the tree that starts there
 pub record SlotTable (ts : List Tree) (table : List ℕ) : Type 0 where
-  pub len : length table ≡ 1024
-  pub slot : (v : ℕ) → v < 1024 → getD table v 0 ≡ slotWord (seek ts v 0)
+  pub len : length table ≡ vertexLimit
+  pub slot : (v : ℕ) → v < vertexLimit → getD table v 0 ≡ slotWord (seek ts v 0)
 
 pub record CanFindTrees (ws table : List ℕ) : Type 0 where
   pub sound : SoundWords ws
-  pub zeros : table ≡ replicate 1024 0
+  pub zeros : table ≡ replicate vertexLimit 0
 
 pub record CanPlanRoot (ws table : List ℕ) (p : Planned) (v : ℕ) : Type 0 where
   pub sound : SoundWords ws
-  pub len : length table ≡ 1024
-  pub entries : p .search .«tree_count» < 64
-  pub count : p .count < 64
+  pub len : length table ≡ vertexLimit
+  pub entries : p .search .«tree_count» < listLimit
+  pub count : p .count < listLimit
   pub vertex : v < getD ws 1 0
 
 pub record Planning : Type 0 where

@@ -1,8 +1,9 @@
 // New trees of a cache, for the roots of a search: the Rust's loop over the starts in `initialize`.
 use layout::wide;
 use model::Search;
+use model::limits::MAX_ENTRIES;
+use model::limits::MAX_VERTICES;
 use sound::trees::root_cost;
-use text::counts::MAX_VERTICES;
 use tree::Node;
 ghost use mathlib.Core.Path.{_≡_};
 ghost use Prim.Native.Nat.{_≤_};
@@ -14,7 +15,7 @@ ghost use Rattle.plant.specs.Plant.{CanPlan, Plans, SlotTable, CanFindTr
 // The entries of a search, and the start vertices of the trees that are not there yet.
 pub struct Planned {
     pub search: Search,
-    pub starts: [u32; 64],
+    pub starts: [u32; MAX_ENTRIES],
     pub count: usize,
 }
 
@@ -27,7 +28,7 @@ pub fn plan(words: &[u32], roots: &[u32]) -> Planned
     find_trees(words, &mut table[0..MAX_VERTICES]);
     let mut plan = Planned {
         search: Search::empty(),
-        starts: [0; 64],
+        starts: [0; MAX_ENTRIES],
         count: 0,
     };
     let mut i = 0;

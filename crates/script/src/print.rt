@@ -10,8 +10,10 @@ use model::SearchStatus;
 use model::Solution;
 use model::StepAnswer;
 use model::Stepped;
+use model::limits::MAX_ENTRIES;
 use model::number;
 ghost use Prim.Native.Nat.{_<_};
+ghost use Rattle.model.specs.Limits.{listLimit};
 
 pub fn print(text: &[u8]) {
     io::write_all(1, text);
@@ -127,7 +129,7 @@ fn print_entries(record: Search) {
         print(b"-");
     }
     let mut i = 0;
-    while i < 64 {
+    while i < MAX_ENTRIES {
         if record.tree_count <= i {
             return;
         }
@@ -137,7 +139,7 @@ fn print_entries(record: Search) {
 }
 
 fn print_entry(record: Search, i: usize)
-    requires { ⌜ i < 64 ⌝ }
+    requires { ⌜ i < listLimit ⌝ }
 {
     print_comma(i);
     let memory = record.trees[i];
@@ -184,7 +186,7 @@ fn print_goals(record: Search) {
         print(b"-");
     }
     let mut i = 0;
-    while i < 64 {
+    while i < MAX_ENTRIES {
         if record.goal_count <= i {
             return;
         }

@@ -10,12 +10,12 @@ use crate::print::print_record;
 use crate::state::RECORDS;
 use crate::state::State;
 use layout::wide;
-use memory::MAX_ENTRIES;
 use model::BestSolution;
 use model::KnownLen;
 use model::Search;
 use model::Solution;
 use model::TreeMemory;
+use model::limits::MAX_ENTRIES;
 ghost use Prim.Native.Nat.{_<_};
 
 pub fn on_record(name: &[u8], f: Fields, state: State) -> State {

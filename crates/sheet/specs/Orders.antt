@@ -6,6 +6,7 @@ use mathlib.Core.Option.{Option, none, some}
 use Prim.Native.Nat.{ℕ, _+_, _-_, min}
 use lib.Dec.{ltb}
 use lib.ListN.{length, take, replicate, set}
+use Rattle.model.specs.Limits.{listLimit}
 use Rattle.text.specs.declared.bytes.Number.{Number}
 use Rattle.text.specs.declared.bytes.Number.the-variants as field
 use Rattle.text.specs.Bytes.{comma, parted, isOnly, numberOf}
@@ -43,14 +44,17 @@ fieldNumbers [] = some []
 fieldNumbers (x ∷ xs) = numbersOf (parted space (x ∷ xs))
 
 -- as it is handed on: a list of more than 64 is refused 4 and a number past 32 bits 3, so that 65 numbers, and 4294967295, tell as much
+abbrev pub handedLimit : ℕ
+handedLimit = 1 + listLimit
+
 abbrev pub handed : List ℕ → List ℕ
-handed l = take 65 (map (min 4294967295) l)
+handed l = take handedLimit (map (min 4294967295) l)
 
 abbrev pub numbersIn : List ℕ → Numbers
-numbersIn l = record { legal = true; numbers = handed l ++ replicate (65 - length (handed l)) 0; count = length (handed l) }
+numbersIn l = record { legal = true; numbers = handed l ++ replicate (handedLimit - length (handed l)) 0; count = length (handed l) }
 
 abbrev pub noNumbers : Numbers
-noNumbers = record { legal = false; numbers = replicate 65 0; count = 0 }
+noNumbers = record { legal = false; numbers = replicate handedLimit 0; count = 0 }
 
 abbrev pub listBy : Option (List ℕ) → Numbers
 listBy none = noNumbers
@@ -112,10 +116,10 @@ orderWith f (s ∷ []) = noOrder
 orderWith f (s ∷ g ∷ []) = orderTold f (listOf s) (listOf g)
 orderWith f (s ∷ g ∷ h ∷ hs) = noOrder
 
--- a list with one number more, if fewer than 65 are kept
+-- a list with one number more, if fewer than `handedLimit` are kept
 abbrev pub withIf : Bool → Numbers → ℕ → Numbers
 withIf true x n = record { legal = x .legal; numbers = set (x .numbers) (x .count) (min 4294967295 n); count = x .count + 1 }
 withIf false x n = x
 
 abbrev pub withNumber : Numbers → ℕ → Numbers
-withNumber x n = withIf (ltb (x .count) 65) x n
+withNumber x n = withIf (ltb (x .count) handedLimit) x n

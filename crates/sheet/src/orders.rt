@@ -1,4 +1,5 @@
 // An order is `F` or `B`, starts, goals; the lists are parted by single spaces, numbers as in a graph's text.
+use model::limits::MAX_ENTRIES;
 use text::bytes::Number;
 use text::bytes::find;
 use text::bytes::read_number;
@@ -10,13 +11,13 @@ ghost use Rattle.text.specs.Bytes.{parted};
 ghost use Rattle.sheet.specs.Orders.{orderOf, listOf, noOrder, noNumbers, numbersIn, formOf, orderIf, orderTold, orderWith, withNumber};
 
 // The longest list that can be told from one of 64.
-pub const MAX_LIST: usize = 65;
+pub const MAX_LIST: usize = 1 + MAX_ENTRIES;
 
 // The first 65 numbers of a list, and how many of them there are. A longer list is over 01's limit of 64 as well. Of a field that is
 // no list nothing is kept.
 pub struct Numbers {
     pub legal: bool,
-    pub numbers: [u32; 65],
+    pub numbers: [u32; MAX_LIST],
     pub count: usize,
 }
 
@@ -143,7 +144,7 @@ fn no_numbers() -> Numbers
 {
     Numbers {
         legal: false,
-        numbers: [0; 65],
+        numbers: [0; MAX_LIST],
         count: 0,
     }
 }
@@ -153,7 +154,7 @@ fn empty_list() -> Numbers
 {
     Numbers {
         legal: true,
-        numbers: [0; 65],
+        numbers: [0; MAX_LIST],
         count: 0,
     }
 }

@@ -6,6 +6,7 @@ use mathlib.Core.List.{List, [], _∷_}
 use Prim.Native.Nat.{ℕ, _+_, _*_, _<_, _≤_, min}
 use lib.Dec.{eqb, leb, ltb}
 use lib.ListN.{length, getD}
+use Rattle.model.specs.Limits.{vertexLimit, edgeLimit, costLimit, slotLimit}
 use Rattle.model.specs.Lists.{mem, allb, upto}
 use Rattle.model.specs.Graph.{Domain, Direction, forward, backward}
 use Rattle.model.specs.Sound.{closerb, fewb, begunb, onwardAllb, starts, distinctb}
@@ -41,13 +42,17 @@ pub record Hung (m l : ℕ) (ws t : List ℕ) : Type 0 where
   pub counted : Counted m l ws t
   pub start : getD t 0 0 < m
   pub vertex : (k : ℕ) → k < getD t 1 0 → getD t (nodeAt k) 0 < m
-  pub cost : (k : ℕ) → k < getD t 1 0 → evaluationIn t k ≤ 999999 * (1 + k)
+  pub cost : (k : ℕ) → k < getD t 1 0 → evaluationIn t k ≤ costLimit * (1 + k)
 
 -- ---- the queue, with a mark for each node and the least waiting costs
 
+-- "1 + L nodes"
+abbrev pub nodeLimit : ℕ
+nodeLimit = 1 + edgeLimit
+
 -- nodes and queue words are within their areas
 pub record Areas (l : ℕ) (t : List ℕ) : Type 0 where
-  pub edges : l ≤ 2048
+  pub edges : l ≤ edgeLimit
   pub fits : closedWordsAt l ≤ length t
   pub used : getD t 1 0 ≤ 1 + l
   pub queued : getD t 2 0 ≤ 1 + l
@@ -55,7 +60,7 @@ pub record Areas (l : ℕ) (t : List ℕ) : Type 0 where
 -- and each node's vertex is below 1,024
 pub record QueueWords (l : ℕ) (t : List ℕ) : Type 0 where
   pub areas : Areas l t
-  pub vertex : (k : ℕ) → k < getD t 1 0 → getD t (nodeAt k) 0 < 1024
+  pub vertex : (k : ℕ) → k < getD t 1 0 → getD t (nodeAt k) 0 < vertexLimit
 
 -- n marks: those of the numbers xs are on
 pub record Marked (marks : List Bool) (n : ℕ) (xs : List ℕ) : Type 0 where
@@ -73,12 +78,12 @@ leastCost t (k ∷ ks) v = lesserIf (eqb (getD t (nodeAt k) 0) v) (evaluationIn 
 
 -- "The check builds a table of 1,024 least waiting costs."
 pub record LeastCosts (costs t xs : List ℕ) : Type 0 where
-  pub len : length costs ≡ 1024
-  pub least : (v : ℕ) → v < 1024 → getD costs v 0 ≡ leastCost t xs v
+  pub len : length costs ≡ vertexLimit
+  pub least : (v : ℕ) → v < vertexLimit → getD costs v 0 ≡ leastCost t xs v
 
 -- the tables after n queue words
 pub record Tables (l : ℕ) (t : List ℕ) (n : ℕ) (marks : List Bool) (costs : List ℕ) : Type 0 where
-  pub marked : Marked marks 2049 (part (queueAt l) n t)
+  pub marked : Marked marks nodeLimit (part (queueAt l) n t)
   pub least : LeastCosts costs t (part (queueAt l) n t)
 
 -- before queue word i, where those before it passed
@@ -103,7 +108,7 @@ pub record Waits (l : ℕ) (t : List ℕ) : Type 0 where
 pub record RootMarked (l : ℕ) (t : List ℕ) (marks : List Bool) : Type 0 where
   pub waits : Waits l t
   pub start : HasVertex l t (getD t 0 0)
-  pub marked : Marked marks 2049 (queueIn l t)
+  pub marked : Marked marks nodeLimit (queueIn l t)
 
 -- queue words and closed words passed, and the table is filled
 pub record LeadsOn (m l : ℕ) (ws t costs : List ℕ) : Type 0 where
@@ -137,7 +142,7 @@ pub record CanCheckTrees (ws : List ℕ) : Type 0 where
 
 pub record TreesIn (m l used : ℕ) (ws : List ℕ) : Type 0 where
   pub held : Held m l ws
-  pub few : used ≤ 64
+  pub few : used ≤ slotLimit
   pub fits : slotAt m l used ≤ length ws
 
 -- "start motifs differ, and in each tree: .."

@@ -4,6 +4,7 @@ use mathlib.Core.Path.{_≡_}
 use mathlib.Core.List.{List}
 use Prim.Native.Nat.{ℕ, _<_, _≤_}
 use lib.ListN.{length, getD}
+use Rattle.model.specs.Limits.{slotLimit}
 use Rattle.model.specs.Sound.{Sound}
 use Rattle.layout.specs.Layout.{slotAt, needed}
 use Rattle.layout.specs.Read.{treeIn, domainOf}
@@ -16,7 +17,7 @@ pub record SoundIn (m l s u : ℕ) (ws : List ℕ) : Type 0 where
   pub header : 5 ≤ length ws
   pub direction : getD ws 0 0 ≤ 1
   pub some-slot : 1 ≤ s
-  pub slots : s ≤ 64
+  pub slots : s ≤ slotLimit
   pub used : u ≤ s
   pub fits : needed m l s ≤ length ws
   pub held : Held m l ws

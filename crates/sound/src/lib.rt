@@ -6,13 +6,15 @@ pub mod trees;
 use crate::trees::is_zero;
 use crate::trees::tree_is_sound;
 use layout::wide;
-use text::counts::MAX_COST;
-use text::counts::MAX_EDGES;
-use text::counts::MAX_VERTICES;
+use model::limits::MAX_COST;
+use model::limits::MAX_EDGES;
+use model::limits::MAX_SLOTS;
+use model::limits::MAX_VERTICES;
 ghost use mathlib.Core.Path.{_≡_};
 ghost use mathlib.Core.Bool.{true, false};
 ghost use Prim.Native.Nat.{_+_, _<_, _≤_};
 ghost use lib.ListN.{length, getD, replicate};
+ghost use Rattle.model.specs.Limits.{vertexLimit};
 ghost use Rattle.model.specs.Lists.{allb, upto};
 ghost use Rattle.layout.specs.Layout.{initialAt};
 ghost use Rattle.layout.specs.Read.{readCache, graphIn};
@@ -53,7 +55,7 @@ fn header_is_sound(words: &[u32]) -> bool
     if slots == 0 {
         return false;
     }
-    if layout::MAX_SLOTS < slots {
+    if MAX_SLOTS < slots {
         return false;
     }
     if slots < layout::header(words, layout::TREES) {
@@ -151,7 +153,7 @@ fn trees_in_use_are_sound(
     trees: usize,
     starts: &mut [bool],
 ) -> bool
-    requires { ⌜ TreesIn vertices edges trees (now words) × (now starts ≡ replicate 1024 false) ⌝ }
+    requires { ⌜ TreesIn vertices edges trees (now words) × (now starts ≡ replicate vertexLimit false) ⌝ }
     ensures { λ r. ⌜ r ≡ treesb vertices edges trees (now (words .entry)) ⌝ }
 {
     let mut i = 0;

@@ -1,20 +1,22 @@
 // Whether one tree's words are sound. `words` has the whole cache, `tree` the part of it that is the tree's slot.
 use layout::wide;
-use text::counts::MAX_VERTICES;
+use model::limits::MAX_EDGES;
+use model::limits::MAX_VERTICES;
 ghost use mathlib.Core.Path.{_≡_};
 ghost use mathlib.Core.Bool.{false};
 ghost use Prim.Native.Nat.{_+_, _<_, _≤_};
 ghost use lib.ListN.{length, getD, replicate};
+ghost use Rattle.model.specs.Limits.{vertexLimit, edgeLimit};
 ghost use Rattle.model.specs.Lists.{allb, upto};
 ghost use Rattle.model.specs.Sound.{hangsb, closedEdges, rootTests, hangAllb, closerb, begunb, onwardb, onwardAllb};
 ghost use Rattle.layout.specs.Layout.{initialAt, closedAt};
 ghost use Rattle.layout.specs.Read.{directionOf, treeIn, domainOf};
 ghost use Rattle.layout.specs.Sound.{zerosb, treeWordsb, spareTests};
 ghost use Rattle.tree.specs.Tree.{treeOf, HasVertex};
-ghost use Rattle.sound.specs.Check.{CanCheck, countTests, Counted, rootCost, Hung, QueueWords, QueueTurn, QueueIs, Waits, RootMarked, LeadsOn, tablesTests, Areas};
+ghost use Rattle.sound.specs.Check.{CanCheck, countTests, Counted, rootCost, Hung, QueueWords, QueueTurn, QueueIs, Waits, RootMarked, LeadsOn, tablesTests, Areas, nodeLimit};
 
 // A tree has at most one node more than there are edges.
-const MAX_NODES: usize = 2049;
+const MAX_NODES: usize = 1 + MAX_EDGES;
 
 pub fn tree_is_sound(words: &[u32], vertices: usize, edges: usize, tree: &[u32]) -> bool
     requires { ⌜ CanCheck vertices edges (now words) (now tree) ⌝ }
@@ -46,7 +48,7 @@ pub fn tree_is_sound(words: &[u32], vertices: usize, edges: usize, tree: &[u32])
 
 // Nodes used and queue length are within their areas, and there is a root.
 fn counts_are_sound(tree: &[u32], edges: usize) -> bool
-    requires { ⌜ (edges ≤ 2048) × (3 ≤ length (now tree)) ⌝ }
+    requires { ⌜ (edges ≤ edgeLimit) × (3 ≤ length (now tree)) ⌝ }
     ensures { λ r. ⌜ r ≡ allb (countTests edges (now (tree .entry))) ⌝ }
 {
     let used = wide(tree[layout::NODES]);
@@ -153,7 +155,7 @@ fn queue_and_edges_are_sound(
     marks: &mut [bool],
     costs: &mut [u32],
 ) -> bool
-    requires { ⌜ Hung vertices edges (now words) (now tree) × ((now marks ≡ replicate 2049 false) × (now costs ≡ replicate 1024 4294967295)) ⌝ }
+    requires { ⌜ Hung vertices edges (now words) (now tree) × ((now marks ≡ replicate nodeLimit false) × (now costs ≡ replicate vertexLimit 4294967295)) ⌝ }
     ensures { λ r. ⌜ r ≡ allb (tablesTests (domainOf vertices edges (now (words .entry))) vertices edges (now (tree .entry))) ⌝ }
 {
     if !queue_is_sound(tree, edges, marks, costs) {
@@ -175,7 +177,7 @@ fn queue_and_edges_are_sound(
 
 // Queue words are distinct nodes in heap order; they are marked, and their costs go into the table.
 fn queue_is_sound(tree: &[u32], edges: usize, marks: &mut [bool], costs: &mut [u32]) -> bool
-    requires { ⌜ QueueWords edges (now tree) × ((now marks ≡ replicate 2049 false) × (now costs ≡ replicate 1024 4294967295)) ⌝ }
+    requires { ⌜ QueueWords edges (now tree) × ((now marks ≡ replicate nodeLimit false) × (now costs ≡ replicate vertexLimit 4294967295)) ⌝ }
     ensures { λ r. ⌜ QueueIs edges (now (tree .entry)) (getD (now (tree .entry)) 2 0) r (now (marks .exit)) (now (costs .exit)) ⌝ }
 {
     let queued = wide(tree[layout::QUEUED]);

@@ -7,6 +7,7 @@ use mathlib.Core.Option.{Option, none, some}
 use Prim.Native.Nat.{ℕ, _+_, _<_}
 use lib.Dec.{eqb, leb, ltb}
 use lib.ListN.{length, getD, take}
+use Rattle.model.specs.Limits.{vertexLimit, edgeLimit, costLimit}
 use Rattle.model.specs.Answers.{Reply, answered, refused, number}
 use Rattle.model.specs.Graph.{Graph, Edge, absent}
 use Rattle.model.specs.Calls.{Fault, firstFault}
@@ -20,16 +21,6 @@ use Rattle.text.specs.declared.counts.Check.the-variants as check
 use Rattle.text.specs.declared.counts.Judged.{Judged}
 use Rattle.text.specs.declared.counts.Judged.the-variants as judged
 use Rattle.text.specs.Lines.{linesOf}
-
--- "At most 1,024 motifs and 2,048 links; start cost and picks at most 999,999"
-abbrev pub vertexLimit : ℕ
-vertexLimit = 1024
-
-abbrev pub edgeLimit : ℕ
-edgeLimit = 2048
-
-abbrev pub costLimit : ℕ
-costLimit = 999999
 
 abbrev pub dear : InitialCost → Bool
 dear Absent = false

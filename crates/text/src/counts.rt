@@ -4,17 +4,14 @@ use crate::lines::InitialCost;
 use crate::lines::Line;
 use crate::lines::read_line;
 use model::Refusal;
+use model::limits::MAX_COST;
+use model::limits::MAX_EDGES;
+use model::limits::MAX_VERTICES;
 ghost use mathlib.Core.Path.{_≡_};
 ghost use Prim.Native.Nat.{_+_, _<_, _≤_};
+ghost use Rattle.model.specs.Limits.{vertexLimit, edgeLimit};
 ghost use Rattle.model.specs.Calls.{firstFault};
 ghost use Rattle.text.specs.Read.{lineFaults, checkFault, counted, judge, judgedReply};
-
-// 01's limits, of vertices, edges and each cost.
-pub const MAX_VERTICES: usize = 1024;
-
-pub const MAX_EDGES: usize = 2048;
-
-pub const MAX_COST: usize = 999999;
 
 // Vertices and edges.
 pub struct Counts {
@@ -85,7 +82,7 @@ impl Counts {
 
     // These with the line counted.
     pub fn count(self, line: Line) -> Counts
-        requires { ⌜ (self .vertices ≤ 1024) × (self .edges ≤ 2048) ⌝ }
+        requires { ⌜ (self .vertices ≤ vertexLimit) × (self .edges ≤ edgeLimit) ⌝ }
         ensures { λ r. ⌜ r ≡ counted self line ⌝ }
     {
         let vertices = self.vertices;

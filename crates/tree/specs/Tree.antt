@@ -5,6 +5,7 @@ use mathlib.Core.Option.{none, some}
 use mathlib.Core.List.{List}
 use Prim.Native.Nat.{ℕ, zero, suc, _+_, _-_, _<_, _≤_}
 use lib.ListN.{length, getD}
+use Rattle.model.specs.Limits.{vertexLimit, edgeLimit}
 use Rattle.model.specs.declared.Solution.{Solution}
 use Rattle.model.specs.declared.Solution.the-variants.{Unsolved, At}
 use Rattle.model.specs.Graph.{Domain}
@@ -31,9 +32,9 @@ nodeOf x = record { vertex = x .vertex; cost = x .cost; parent = x .parent; edge
 -- what every call finds and leaves: nodes and queue words within their areas, queue words distinct nodes in heap order, closed words
 -- nodes, unused words 0
 pub record Formed (l : ℕ) (t : List ℕ) : Type 0 where
-  pub edges : l ≤ 2048
+  pub edges : l ≤ edgeLimit
   pub fits : closedWordsAt l ≤ length t
-  pub vertices : length t ≤ closedWordsAt l + 1024
+  pub vertices : length t ≤ closedWordsAt l + vertexLimit
   pub used : getD t 1 0 ≤ 1 + l
   pub queued : getD t 2 0 ≤ getD t 1 0
   pub nodes : (i : ℕ) → i < getD t 2 0 → getD t (queueAt l + i) 0 < getD t 1 0
