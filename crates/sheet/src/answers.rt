@@ -1,8 +1,10 @@
 // The lines that a sheet prints: order number, answer, total, waits, tickets, run; `-` absent.
+use text::bytes::DIGIT_0;
 ghost use mathlib.Core.Path.{_≡_};
 ghost use mathlib.Core.List.{[], _∷_, _++_};
 ghost use Prim.Native.Nat.{_+_, _*_, _<_, _≤_};
 ghost use lib.ListN.{length};
+ghost use Rattle.text.specs.Bytes.{comma, digit0};
 ghost use Rattle.text.specs.Print.{decimal};
 ghost use Rattle.sheet.specs.Answers.{CanPutLine, Puts, lineOf, refusedLine, answerFields, pathText, joined, spaced, DigitsOf};
 
@@ -108,7 +110,7 @@ fn put_word(out: &mut [u8], at: usize, i: usize, word: u32) -> usize
 // A number and a comma.
 fn put_field(out: &mut [u8], at: usize, n: usize) -> usize
     requires { ⌜ (n < 10000000000) × (at + 11 ≤ length (now out)) ⌝ }
-    ensures { λ r. ⌜ Puts (now (out .entry)) at (decimal n ++ (44 ∷ [])) r (now (out .exit)) ⌝ }
+    ensures { λ r. ⌜ Puts (now (out .entry)) at (decimal n ++ (comma ∷ [])) r (now (out .exit)) ⌝ }
 {
     let a = put_decimal(out, at, n);
     put_byte(out, a, b',')
@@ -148,9 +150,9 @@ fn digits_of(n: usize) -> Digits
 
 fn digit(n: usize) -> u8
     requires { ⌜ n < 10 ⌝ }
-    ensures { λ r. ⌜ r ≡ 48 + n ⌝ }
+    ensures { λ r. ⌜ r ≡ digit0 + n ⌝ }
 {
-    (48 + n) as u8
+    (DIGIT_0 + n) as u8
 }
 
 pub fn put_bytes(out: &mut [u8], at: usize, text: &[u8]) -> usize

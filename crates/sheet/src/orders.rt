@@ -7,7 +7,7 @@ ghost use mathlib.Core.Path.{_≡_};
 ghost use mathlib.Core.Bool.{_&&_};
 ghost use mathlib.Core.List.{[]};
 ghost use Prim.Native.Nat.{min};
-ghost use Rattle.text.specs.Bytes.{parted};
+ghost use Rattle.text.specs.Bytes.{comma, parted};
 ghost use Rattle.sheet.specs.Orders.{orderOf, listOf, noOrder, noNumbers, numbersIn, formOf, orderIf, orderTold, orderWith, withNumber};
 
 // The longest list that can be told from one of 64.
@@ -66,7 +66,7 @@ fn read_letter(field: &[u8]) -> Form
 
 // The fields behind the first, which must be two.
 fn read_lists(form: Form, fields: &[u8]) -> Order
-    ensures { λ r. ⌜ r ≡ orderWith form (parted 44 (now (fields .entry))) ⌝ }
+    ensures { λ r. ⌜ r ≡ orderWith form (parted comma (now (fields .entry))) ⌝ }
 {
     let k = find(fields, b',');
     if k == fields.len() {

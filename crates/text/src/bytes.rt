@@ -5,7 +5,7 @@ ghost use lib.ListN.{length};
 ghost use Rattle.text.specs.Bytes.{place, numberOf, digitsFrom};
 
 // `0` and `9`.
-const DIGIT_0: usize = 48;
+pub const DIGIT_0: usize = 48;
 
 const DIGIT_9: usize = 57;
 

@@ -4,7 +4,7 @@ use crate::bytes::find;
 use crate::bytes::read_number;
 ghost use mathlib.Core.Path.{_≡_};
 ghost use mathlib.Core.List.{_∷_, []};
-ghost use Rattle.text.specs.Bytes.{parted, isOnly};
+ghost use Rattle.text.specs.Bytes.{comma, hyphen, letterL, letterM, parted, isOnly};
 ghost use Rattle.text.specs.Lines.{lineOf, formOf, edgeFrom};
 
 pub enum InitialCost {
@@ -41,7 +41,7 @@ pub fn read_line(s: &[u8]) -> Line
 
 // The fields behind `M,`.
 fn vertex_line(s: &[u8]) -> Line
-    ensures { λ r. ⌜ r ≡ formOf ((77 ∷ []) ∷ parted 44 (now (s .entry))) ⌝ }
+    ensures { λ r. ⌜ r ≡ formOf ((letterM ∷ []) ∷ parted comma (now (s .entry))) ⌝ }
 {
     let k = find(s, b',');
     if k == s.len() {
@@ -68,7 +68,7 @@ fn vertex_line(s: &[u8]) -> Line
 }
 
 fn is_hyphen(s: &[u8]) -> bool
-    ensures { λ r. ⌜ r ≡ isOnly 45 (now (s .entry)) ⌝ }
+    ensures { λ r. ⌜ r ≡ isOnly hyphen (now (s .entry)) ⌝ }
 {
     if s.len() == 1 {
         return s[0] == b'-';
@@ -78,7 +78,7 @@ fn is_hyphen(s: &[u8]) -> bool
 
 // The fields behind `L,`.
 fn edge_line(s: &[u8]) -> Line
-    ensures { λ r. ⌜ r ≡ formOf ((76 ∷ []) ∷ parted 44 (now (s .entry))) ⌝ }
+    ensures { λ r. ⌜ r ≡ formOf ((letterL ∷ []) ∷ parted comma (now (s .entry))) ⌝ }
 {
     let k = find(s, b',');
     if k == s.len() {
@@ -93,7 +93,7 @@ fn edge_line(s: &[u8]) -> Line
 
 // The fields behind a legal first end.
 fn edge_from(from: usize, s: &[u8]) -> Line
-    ensures { λ r. ⌜ r ≡ edgeFrom from (parted 44 (now (s .entry))) ⌝ }
+    ensures { λ r. ⌜ r ≡ edgeFrom from (parted comma (now (s .entry))) ⌝ }
 {
     let k = find(s, b',');
     if k == s.len() {
