@@ -10,9 +10,9 @@ use native.Mathlib.Decide.{ℕ-discrete}
 use native.Mathlib.Omega.{arith}
 use borrow.Author.Tests.{eqb-false}
 use lib.Dec.{eqb}
-use lib.ListN.{length, length-append}
+use lib.ListN.{length, getD, length-append}
 use Rattle.model.specs.Lists.{Ascends}
-use Rattle.model.specs.Graph.{Domain, Direction, forward, backward, Accepted, absent, edgeCount, vertexCount, initialBy, initialCost}
+use Rattle.model.specs.Graph.{Domain, Direction, forward, backward, Accepted, absent, edgeCount, vertexCount, rootCost, initialCost}
 use Rattle.model.specs.Tree.{Tree, Node, node, closedAt, without}
 use Rattle.model.specs.Path.{snocIf, pathIn, path, movesOf}
 use Rattle.model.specs.Sound.{Sound, Hangs}
@@ -32,7 +32,7 @@ pub initial-bound : (d : Domain) → Accepted (d .graph) → (v : ℕ) → initi
 unfolding initialCost
 initial-bound d acc v h = go (d .direction) h
   where
-    go : (dir : Direction) → initialBy dir (d .graph) v ≢ absent → initialBy dir (d .graph) v ≤ 999999
+    go : (dir : Direction) → rootCost dir (getD (d .graph .initial) v absent) ≢ absent → rootCost dir (getD (d .graph .initial) v absent) ≤ 999999
     go forward h = elim (acc .starts v) [ inl e ↦ absurd (h e) | inr k ↦ k ]
     go backward h = omega arith
 

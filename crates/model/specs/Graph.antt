@@ -147,10 +147,10 @@ unfoldable pub edgeNumbers : Domain → List ℕ
 unfolding choices
 edgeNumbers d = joined (choices d) (numbers (vertexCount (d .graph)))
 
--- the cost of a root: backward "start costs and `-` are not looked at"
-abbrev pub initialBy : Direction → Graph → ℕ → ℕ
-initialBy forward g v = getD (g .initial) v absent
-initialBy backward g v = 0
+-- the cost of a root at a vertex of initial cost c: backward "start costs and `-` are not looked at"
+abbrev pub rootCost : Direction → ℕ → ℕ
+rootCost forward c = c
+rootCost backward c = 0
 
 unfoldable pub initialCost : Domain → ℕ → ℕ
-initialCost d v = initialBy (d .direction) (d .graph) v
+initialCost d v = rootCost (d .direction) (getD (d .graph .initial) v absent)

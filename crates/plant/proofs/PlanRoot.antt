@@ -9,11 +9,10 @@ use borrow.Author.Tests.{eq-eqb, ne-eqb}
 use lib.Dec.{eqb}
 use lib.ListN.{getD, set}
 use Rattle.model.specs.declared.Search.{Search}
-use Rattle.model.specs.Graph.{absent, initialCost}
+use Rattle.model.specs.Graph.{absent, rootCost, initialCost}
 use Rattle.model.specs.Search.{withEntry}
 use Rattle.layout.specs.Layout.{initialAt}
 use Rattle.layout.specs.Read.{directionOf, readCache}
-use Rattle.sound.specs.Check.{rootCost}
 use Rattle.plant.specs.declared.Planned.{Planned}
 use Rattle.plant.specs.Plant.{Planning, planIf, CanPlanRoot, PlansRoot}
 use Rattle.plant.proofs.Planting.{root-cost-is}

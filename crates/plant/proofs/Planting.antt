@@ -7,12 +7,11 @@ use native.Mathlib.Omega.{arith}
 use lib.ListN.{length, getD, set, take, length-take}
 use lib.Seq.{sets, take-all}
 use borrow.Rule.Slice.PartMut.{putMid, midOf}
-use Rattle.model.specs.Graph.{Domain, initialCost}
+use Rattle.model.specs.Graph.{Domain, rootCost, initialCost}
 use Rattle.model.specs.Tree.{Tree}
 use Rattle.model.specs.Calls.{Cache, withTrees}
 use Rattle.layout.specs.Layout.{initialAt, treeWords, slotAt}
 use Rattle.layout.specs.Read.{directionOf, readCache}
-use Rattle.sound.specs.Check.{rootCost}
 use Rattle.sound.specs.Facts.{SoundWords}
 use Rattle.sound.proofs.Facts.{trees-length}
 use Rattle.sound.proofs.Nodes.{start-cost}

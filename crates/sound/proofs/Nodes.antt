@@ -11,7 +11,7 @@ use borrow.Author.Tests.{ltb-true, eqb-true, eqb-false, not-true, not-false, lt-
 use lib.Dec.{eqb, leb, ltb}
 use lib.ListN.{length, getD}
 use Rattle.model.specs.Lists.{allb, upto}
-use Rattle.model.specs.Graph.{Graph, Domain, Direction, forward, backward, Accepted, from, to, cost, absent, vertexCount, edgeCount, initialBy, initialCost}
+use Rattle.model.specs.Graph.{Graph, Domain, Accepted, from, to, cost, absent, vertexCount, edgeCount, rootCost, initialCost}
 use Rattle.model.specs.Tree.{Tree, Node, node, closedAt}
 use Rattle.model.specs.Sound.{Hangs, hangTests, hangsb, rootTests, hangAllb}
 use Rattle.model.proofs.Bools.{AllTrue, all-true, true-or-right}
@@ -22,7 +22,7 @@ use Rattle.layout.specs.Layout.{initialAt, edgeAt, nodeAt}
 use Rattle.layout.specs.Read.{graphIn, directionOf, treeIn, domainOf}
 use Rattle.layout.proofs.Edges.{initial-word, vertex-count-in, edge-count-in, from-word, to-word, cost-word}
 use Rattle.layout.proofs.Trees.{nodeIn, tree-nodes, tree-node}
-use Rattle.sound.specs.Check.{countTests, Counted, rootCost, Hung}
+use Rattle.sound.specs.Check.{countTests, Counted, Hung}
 use Rattle.sound.proofs.Tests.{upto-fails, upto-passes, all-fails, read-last}
 
 -- ---- counts
@@ -50,11 +50,7 @@ backward-cost (suc n) x z = refl
 pub start-cost : (m l : ℕ) (ws : List ℕ) (v : ℕ) → v < m → initialAt + m ≤ length ws
     → initialCost (domainOf m l ws) v ≡ rootCost (directionOf (getD ws 0 0)) (getD ws (initialAt + v) 0)
 unfolding initialCost
-start-cost m l ws v h fits = go (directionOf (getD ws 0 0))
-  where
-    go : (dir : Direction) → initialBy dir (graphIn m l ws) v ≡ rootCost dir (getD ws (initialAt + v) 0)
-    go forward = initial-word m l ws v absent h fits
-    go backward = refl
+start-cost m l ws v h fits = ap (rootCost (directionOf (getD ws 0 0))) (initial-word m l ws v absent h fits)
 
 -- the root's tests as its words have them: s the start vertex, c its cost
 abbrev pub rootWords : ℕ → ℕ → ℕ → List ℕ → List Bool

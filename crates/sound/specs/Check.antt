@@ -8,7 +8,7 @@ use lib.Dec.{eqb, leb, ltb}
 use lib.ListN.{length, getD}
 use Rattle.model.specs.Limits.{vertexLimit, edgeLimit, costLimit, slotLimit}
 use Rattle.model.specs.Lists.{mem, allb, upto}
-use Rattle.model.specs.Graph.{Domain, Direction, forward, backward}
+use Rattle.model.specs.Graph.{Domain}
 use Rattle.model.specs.Sound.{closerb, fewb, begunb, onwardAllb, starts, distinctb}
 use Rattle.layout.specs.Layout.{Sized, placesAt, nodeAt, queueAt, closedAt as closedWordsAt, treeWords, slotAt, part}
 use Rattle.layout.specs.Read.{treeIn, treesIn, domainOf, readCache}
@@ -31,11 +31,6 @@ pub record Counted (m l : ℕ) (ws t : List ℕ) : Type 0 where
   pub some-node : 0 < getD t 1 0
   pub used : getD t 1 0 ≤ 1 + l
   pub queued : getD t 2 0 ≤ 1 + l
-
--- the cost of a root whose initial cost is c: "(backward 0)"
-abbrev pub rootCost : Direction → ℕ → ℕ
-rootCost forward c = c
-rootCost backward c = 0
 
 -- the nodes hang: each node's vertex is one, and its cost is far below 2 ^ 32
 pub record Hung (m l : ℕ) (ws t : List ℕ) : Type 0 where

@@ -8,12 +8,13 @@ ghost use Prim.Native.Nat.{_+_, _<_, _≤_};
 ghost use lib.ListN.{length, getD, replicate};
 ghost use Rattle.model.specs.Limits.{vertexLimit, edgeLimit};
 ghost use Rattle.model.specs.Lists.{allb, upto};
+ghost use Rattle.model.specs.Graph.{rootCost};
 ghost use Rattle.model.specs.Sound.{hangsb, closedEdges, rootTests, hangAllb, closerb, begunb, onwardb, onwardAllb};
 ghost use Rattle.layout.specs.Layout.{initialAt, closedAt};
 ghost use Rattle.layout.specs.Read.{directionOf, treeIn, domainOf};
 ghost use Rattle.layout.specs.Sound.{zerosb, treeWordsb, spareTests};
 ghost use Rattle.tree.specs.Tree.{treeOf, HasVertex};
-ghost use Rattle.sound.specs.Check.{CanCheck, countTests, Counted, rootCost, Hung, QueueWords, QueueTurn, QueueIs, Waits, RootMarked, LeadsOn, tablesTests, Areas, nodeLimit};
+ghost use Rattle.sound.specs.Check.{CanCheck, countTests, Counted, Hung, QueueWords, QueueTurn, QueueIs, Waits, RootMarked, LeadsOn, tablesTests, Areas, nodeLimit};
 
 // A tree has at most one node more than there are edges.
 const MAX_NODES: usize = 1 + MAX_EDGES;
