@@ -11,7 +11,8 @@ use Rattle.model.specs.Answers.{answered, refused}
 use Rattle.model.proofs.Replies.{answered-refused}
 use Rattle.model.specs.Graph.{forward, backward, domain, absent}
 use Rattle.model.specs.Calls.{opened}
-use Rattle.text.proofs.Examples.{bytes, exampleText, exampleGraph}
+use Rattle.text.specs.Bytes.{bytes}
+use Rattle.text.proofs.Examples.{exampleText, exampleGraph}
 use Rattle.layout.specs.Read.{readCache}
 use Rattle.cache.specs.Open.{AfterOpen, openCache, Opening}
 

@@ -28,7 +28,8 @@ use Rattle.model.specs.Path.{path, words}
 use Rattle.model.specs.Calls.{initialize, step, retrace}
 use Rattle.model.specs.Demands.{initializing, Act, ownStep, ownRetrace, other, Event, stepped, retraced}
 use Rattle.model.proofs.AlteredRecords.{memory, recordOf}
-use Rattle.text.proofs.Examples.{bytes, exampleText}
+use Rattle.text.specs.Bytes.{bytes}
+use Rattle.text.proofs.Examples.{exampleText}
 use Rattle.layout.specs.Read.{readCache}
 use Rattle.layout.specs.Sound.{soundWordsb}
 use Rattle.cache.specs.Open.{Opening, openCache}

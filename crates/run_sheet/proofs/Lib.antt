@@ -7,3 +7,5 @@ pub mod Bounds
 pub mod Driven
 pub mod Right
 pub mod Called
+pub mod Whole
+pub mod Table

@@ -34,7 +34,8 @@ use Rattle.sheet.specs.Orders.{orderOf}
 use Rattle.sheet.specs.Answers.{Puts, lineOf}
 use Rattle.sheet.proofs.answers.Answer as answer
 use Rattle.run_sheet.specs.Orders.{answerOf, refusedText, shownText, drivenBy, drivenText, orderedBy, Ordered, ordered}
-use Rattle.run_sheet.specs.Sheet.{afterSteps, listed, Ran, RanBy, RanLine}
+use Rattle.run_sheet.specs.Whole.{listed}
+use Rattle.run_sheet.specs.Sheet.{afterSteps, Ran, RanBy, RanLine}
 use Rattle.run_sheet.proofs.Within.{put-within}
 use Rattle.run_sheet.proofs.Drives.{taken-is}
 

@@ -2,9 +2,9 @@
 -- Assumes nothing.
 use mathlib.Core.Path.{_≡_}
 use mathlib.Core.Bool.{true}
-use mathlib.Core.List.{List}
+use mathlib.Core.List.{List, [], _++_}
 use Prim.Native.Nat.{ℕ, _<_, _≤_}
-use lib.ListN.{length, take}
+use lib.ListN.{length, drop}
 use Rattle.model.specs.declared.OpenAnswer.the-variants.{Opened}
 use Rattle.model.specs.Answers.{answered, refused, stepReply}
 use Rattle.model.specs.Graph.{Graph, Accepted, Direction, forward, backward}
@@ -21,14 +21,16 @@ use Rattle.sheet.specs.declared.orders.Form.{Form}
 use Rattle.sheet.specs.declared.orders.Form.the-variants.{Forward, Backward, Illegal}
 use Rattle.sheet.specs.declared.orders.Order.{Order}
 use Rattle.sheet.specs.Orders.{orderOf}
-use Rattle.sheet.specs.Answers.{Puts}
+use Rattle.sheet.specs.Answers.{Puts, refusedLine}
 use Rattle.run_sheet.specs.Orders.{ordered, refusedText, RightLine}
+use Rattle.run_sheet.specs.Whole.{maxBytes, lentWords, lentSlots, listed, Caches, linesText, sheetText}
+use Rattle.run_sheet.specs.declared.Part.{Part}
 use Rattle.run_sheet.specs.declared.files.Bytes.{Bytes}
 use Rattle.run_sheet.specs.declared.files.Bytes.the-variants.{Count, Failed}
 
 -- an order's number, and the bytes lent for its line
 pub record CanPut (n : ℕ) (out : List ℕ) : Type 0 where
-  pub order : n ≤ 65536
+  pub order : n ≤ maxBytes
   pub room : 24576 ≤ length out
 
 -- a list's numbers are counted within its array
@@ -51,10 +53,6 @@ Within Failed space = Unit {0}
 -- what some steps came to, with the cache that the words left hold
 abbrev pub afterSteps : StepsTaken → List ℕ → AfterSteps
 afterSteps r left = record { cache = readCache left; search = r .search; reply = stepReply (r .answer); waits = r .waits; tickets = r .tickets }
-
--- the numbers of a list that was read
-abbrev pub listed : Numbers → List ℕ
-listed x = take (x .count) (x .numbers)
 
 -- order i from ss to gs in the words ws: its text stands at the start of out, and r is its length
 pub record Ran (ws : List ℕ) (i : ℕ) (ss gs out : List ℕ) (r : ℕ) (left out′ : List ℕ) : Type 0 where
@@ -101,14 +99,77 @@ LinesAreRight =
     (dir : Direction) (g : Graph) (t i : ℕ) (ws ss gs out : List ℕ) (r : ℕ) (left out′ : List ℕ) → Called dir g t ws → Ran ws i ss gs out r left out′
     → (text : List ℕ) × (Puts out 0 text r out′ × PrintsRight dir g t i ws ss gs left text)
 
--- both directions' words, of one graph and with 16 slots
+-- both directions' words, of one graph
 pub record CalledBoth (fs bs : List ℕ) : Type 0 where
   pub graph : Graph
-  pub forward : Called forward graph 16 fs
-  pub backward : Called backward graph 16 bs
+  pub forward : Called forward graph lentSlots fs
+  pub backward : Called backward graph lentSlots bs
 
 -- an opened cache is such a one
 abbrev pub OpensCalled : Type 0
 OpensCalled =
     (ws text : List ℕ) (d t : ℕ) (left : List ℕ) → Opening ws text d t Opened left
     → (g : Graph) × ((readGraph text ≡ answered g) × Called (directionOf d) g t left)
+
+-- ---- the sheet, part by part
+
+abbrev pub cachesIn : List ℕ → List ℕ → Caches
+cachesIn fs bs = record { forward = readCache fs; backward = readCache bs }
+
+-- the words lent, and the bytes for a line
+pub record CanBegin (fs bs out : List ℕ) : Type 0 where
+  pub forward : length fs ≡ lentWords
+  pub backward : length bs ≡ lentWords
+  pub room : 24576 ≤ length out
+
+-- an order is left at the place of p: its number is no greater than the place, and the words hold caches of one graph after calls
+pub record CanGoOn (orders fs bs : List ℕ) (p : Part) : Type 0 where
+  pub few : length orders ≤ maxBytes
+  pub number : p .order ≤ p .at
+  pub called : CalledBoth fs bs
+
+-- the text of a part stands at the start of out; what is left of the sheet are the lines of the orders from its place on
+pub record PutsPart (orders out whole : List ℕ) (p : Part) (fs bs out′ : List ℕ) : Type 0 where
+  pub text : List ℕ
+  pub put : Puts out 0 text (p .bytes) out′
+  pub rest : whole ≡ text ++ linesText (p .order) (cachesIn fs bs) (drop (p .at) orders)
+  pub within : p .at ≤ length orders
+  pub next : p .at < length orders → CanGoOn orders fs bs p
+
+-- a line `refused n`, and no order is left
+pub record RefusedPart (orders out : List ℕ) (n : ℕ) (p : Part) (out′ : List ℕ) : Type 0 where
+  pub put : Puts out 0 (refusedLine n) (p .bytes) out′
+  pub end : p .at ≡ length orders
+
+-- the first part: the title, or the only line of a sheet that is refused
+abbrev pub Begins : List ℕ → List ℕ → List ℕ → Part → List ℕ → List ℕ → List ℕ → Type 0
+Begins chart orders out p fs bs out′ = PutsPart orders out (sheetText chart orders) p fs bs out′
+
+pub record CanPutNext (orders fs bs out : List ℕ) (p : Part) : Type 0 where
+  pub left : p .at < length orders
+  pub can : CanGoOn orders fs bs p
+  pub room : 24576 ≤ length out
+
+-- the part of the order at the place of p
+pub record PutsNext (orders fs bs out : List ℕ) (p q : Part) (fs′ bs′ out′ : List ℕ) : Type 0 where
+  pub part : PutsPart orders out (linesText (p .order) (cachesIn fs bs) (drop (p .at) orders)) q fs′ bs′ out′
+  pub further : p .at < q .at
+
+-- so the parts one after the other are the sheet: some were written, and p is the last of them
+pub record Written (chart orders fs bs : List ℕ) (p : Part) : Type 0 where
+  pub before : List ℕ
+  pub rest : sheetText chart orders ≡ before ++ linesText (p .order) (cachesIn fs bs) (drop (p .at) orders)
+  pub within : p .at ≤ length orders
+  pub next : p .at < length orders → CanGoOn orders fs bs p
+
+-- the texts of parts, from the place of p to the end of the orders
+pub data Parts (orders : List ℕ) : List ℕ → List ℕ → Part → List ℕ → Type 0 where
+  no-more : {fs bs : List ℕ} {p : Part} → p .at ≡ length orders → Parts orders fs bs p []
+  one-more : {fs bs out fs′ bs′ out′ rest : List ℕ} {p q : Part} (x : PutsNext orders fs bs out p q fs′ bs′ out′) → Parts orders fs′ bs′ q rest
+      → Parts orders fs bs p (x .part .text ++ rest)
+
+-- the first part and those after it, written one after the other, are the whole sheet
+abbrev pub WritesSheet : Type 0
+WritesSheet =
+    (chart orders out : List ℕ) (p : Part) (fs bs out′ rest : List ℕ) (x : Begins chart orders out p fs bs out′) → Parts orders fs bs p rest
+    → x .text ++ rest ≡ sheetText chart orders

@@ -1,9 +1,10 @@
 // The sheet of two files.
+use crate::MAX_BYTES;
 use crate::run;
 ghost use Rattle.run_sheet.specs.Sheet.{Within};
 
 // One byte more than a file may have.
-const SPACE: usize = 65537;
+const SPACE: usize = MAX_BYTES + 1;
 
 enum Bytes {
     Count(usize),

@@ -18,7 +18,8 @@ ghost use Rattle.model.specs.Answers.{stepReply};
 ghost use Rattle.layout.specs.Sound.{soundWordsb};
 ghost use Rattle.sheet.specs.Answers.{Puts};
 ghost use Rattle.run_sheet.specs.Orders.{answerOf, refusedText, drivenText};
-ghost use Rattle.run_sheet.specs.Sheet.{CanPut, InArrays, Counted, afterSteps, listed, Ran, RanLine, CalledBoth};
+ghost use Rattle.run_sheet.specs.Whole.{listed};
+ghost use Rattle.run_sheet.specs.Sheet.{CanPut, InArrays, Counted, afterSteps, Ran, RanLine, CalledBoth};
 
 // The words of a path of 1,023 moves, the most there are among 1,024 vertices.
 const MAX_PATH: usize = 2047;

@@ -34,6 +34,13 @@ fn main() {
     print_case(b"link-to-next-motif");
     print_case(b"picks-1000000");
     print_case(b"short-cloth");
+    print_case(b"words-15998");
+    print_case(b"words-16004");
+    print_case(b"chart-65536");
+    print_case(b"chart-65537");
+    print_case(b"orders-65536");
+    print_case(b"orders-65537");
+    print_case(b"chart-folder");
 }
 
 fn print_case(name: &[u8])

@@ -3,17 +3,13 @@
 use mathlib.Core.Path.{_≡_, refl}
 use mathlib.Core.List.{List, [], _∷_}
 use Prim.Native.Nat.{ℕ}
-use Prim.Native.Char.{code}
 use Prim.Native.String as string
 use Rattle.model.specs.Answers.{Reply, answered, refused}
 use Rattle.model.specs.Graph.{Graph, absent}
 use Rattle.text.specs.declared.counts.Counts.{Counts}
+use Rattle.text.specs.Bytes.{bytes}
 use Rattle.text.specs.Print.{printed}
 use Rattle.text.specs.Read.{readGraph, judge}
-
-unfoldable pub bytes : string.String → List ℕ
-bytes string.[] = []
-bytes (string._∷_ c s) = code c ∷ bytes s
 
 unfoldable said : string.String → Reply Counts
 unfolding bytes judge

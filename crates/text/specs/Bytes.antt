@@ -2,6 +2,8 @@
 -- Assumes nothing.
 use mathlib.Core.Bool.{Bool, true, false, not, _&&_, _||_}
 use mathlib.Core.List.{List, [], _∷_}
+use Prim.Native.Char.{code}
+use Prim.Native.String as string
 use Prim.Native.Nat.{ℕ, suc, _+_, _-_, _*_}
 use lib.Dec.{eqb, leb}
 use lib.ListN.{length, getD}
@@ -30,6 +32,11 @@ letterL = 76
 
 abbrev pub letterM : ℕ
 letterM = 77
+
+-- a text in ASCII, as its bytes
+unfoldable pub bytes : string.String → List ℕ
+bytes string.[] = []
+bytes (string._∷_ c s) = code c ∷ bytes s
 
 -- the pieces of a text between the bytes b: "fields are parted by commas"
 abbrev pub parting : Bool → ℕ → List (List ℕ) → List (List ℕ)
