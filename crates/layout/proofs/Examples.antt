@@ -9,7 +9,7 @@ use lib.ListN.{set, take, replicate}
 use Rattle.model.specs.Lists.{numbers, allb, upto}
 use Rattle.model.specs.Graph.{Domain, forward}
 use Rattle.model.specs.Tree.{Tree}
-use Rattle.model.specs.Sound.{soundb, distinctb}
+use Rattle.model.specs.Sound.{soundTests, soundb, distinctb}
 use Rattle.layout.specs.Read.{graphIn}
 use Rattle.layout.specs.Sound.{zerosb, headerTests, edgeTests, formTests, soundWordsb}
 
@@ -85,6 +85,10 @@ zeros m l t n = 0 ∷ m ∷ l ∷ t ∷ 0 ∷ replicate n 0
 short-header : headerTests (take 4 sample) ≡ false ∷ true ∷ true ∷ true ∷ true ∷ true ∷ true ∷ false ∷ []
 unfolding sample
 short-header = refl
+
+header-alone : headerTests (take 5 sample) ≡ true ∷ true ∷ true ∷ true ∷ true ∷ true ∷ true ∷ false ∷ []
+unfolding sample
+header-alone = refl
 
 one-word-short : soundWordsb (take 106 sample) ≡ false
 unfolding soundWordsb sample
@@ -179,11 +183,7 @@ start-repeated : soundWordsb (set (set (set sample 53 0) 56 0) 57 0) ≡ false
 unfolding soundWordsb sample
 start-repeated = refl
 
--- "node 0 is the root with its start cost, never `-`": a tree without nodes has no root's parent either
-no-node : soundWordsb (set (set (set (set (set (set (set sample 54 0) 55 0) 56 0) 57 0) 58 0) 59 0) 72 0) ≡ false
-unfolding soundWordsb sample
-no-node = refl
-
+-- "node 0 is the root with its start cost, never `-`"
 root-elsewhere : soundWordsb (set sample 56 2) ≡ false
 unfolding soundWordsb sample
 root-elsewhere = refl
@@ -291,6 +291,11 @@ reached-dearer : soundWordsb (set (set (set (set (set sample 10 2) 33 2) 45 2) 4
 unfolding soundWordsb sample
 reached-dearer = refl
 
+-- edges 0 and 2 enter 1, which is closed at 9
+closed-too-dear : soundWordsb (set (set (set (set (set (set (set sample 13 1) 16 1) 37 1) 50 3) 28 0) 45 0) 46 0) ≡ false
+unfolding soundWordsb sample
+closed-too-dear = refl
+
 -- "Unused words, emptied queue words too, are 0, also in a sound book."
 unused-node-word : soundWordsb (set sample 42 1) ≡ false
 unfolding soundWordsb sample
@@ -323,6 +328,10 @@ rooted waiting closed =
 
 abbrev point : Domain
 point = record { direction = forward; graph = record { initial = 0 ∷ []; edges = [] } }
+
+-- a tree without nodes: then its root has no parent 4294967295 either
+no-node : take 1 (soundTests point (record { start = 0; nodes = []; waiting = []; closed = 0 ∷ [] })) ≡ false ∷ []
+no-node = refl
 
 rooted-sound : soundb point (rooted (0 ∷ []) (0 ∷ [])) ≡ true
 unfolding soundb
