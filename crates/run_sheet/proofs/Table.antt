@@ -4,7 +4,7 @@ use mathlib.Core.Path.{_≡_, refl}
 use mathlib.Core.List.{List, [], _∷_, map}
 use Prim.Native.Nat.{ℕ}
 use Prim.Native.String.{String}
-use Rattle.model.specs.Path.{path}
+use Rattle.model.specs.Path.{path, words}
 use Rattle.text.specs.Bytes.{bytes}
 use Rattle.text.proofs.Examples.{exampleText}
 use Rattle.run_sheet.specs.Whole.{sheetText}
@@ -50,7 +50,7 @@ table =
     ∷ []
 
 pub rows : map (λ (x : Sheet). sheetText (bytes (x .chart)) (bytes (x .orders))) table ≡ map (λ (x : Sheet). bytes (x .prints)) table
-unfolding table sheetText bytes path
+unfolding table sheetText bytes path words
 rows = refl
 
 -- ---- where the sheet ends before its orders, and at its ends
@@ -69,5 +69,5 @@ edges =
     ∷ []
 
 pub edge-rows : map (λ (x : Sheet). sheetText (bytes (x .chart)) (bytes (x .orders))) edges ≡ map (λ (x : Sheet). bytes (x .prints)) edges
-unfolding edges sheetText bytes path
+unfolding edges sheetText bytes
 edge-rows = refl

@@ -112,22 +112,19 @@ ran-line : (fs bs : List ℕ) (i : ℕ) (l out : List ℕ) (r : ℕ) (fs′ bs�
 unfolding printed
 ran-line fs bs i l = ran-by (orderOf l .form) fs bs i (orderOf l)
 
-module _ {orders fs bs out : List ℕ} {p : Part} (left : p .at < length orders) (can : CanGoOn orders fs bs p)
+module _ {orders fs bs : List ℕ} (out : List ℕ) {p : Part} (left : p .at < length orders) (can : CanGoOn orders fs bs p)
     {k : ℕ} (found : k ≡ place 10 (rest orders (p .at))) where
-  abbrev i : ℕ
-  i = p .order
-
   -- a last line without LF
-  pub put-last : {r : ℕ} {out′ : List ℕ} → p .at + k ≡ length orders → Puts out 0 (refusedText i 1) r out′
-      → PutsNext orders fs bs out p (record { bytes = r; at = p .at + k; order = i + 1 }) fs bs out′
+  pub put-last : {r : ℕ} {out′ : List ℕ} → p .at + k ≡ length orders → Puts out 0 (refusedText (p .order) 1) r out′
+      → PutsNext orders fs bs out p (record { bytes = r; at = p .at + k; order = p .order + 1 }) fs bs out′
   put-last {r} {out′} e t =
-      let none : linesText (i + 1) (cachesIn fs bs) (drop (p .at + k) orders) ≡ [] =
-      ap (λ (n : ℕ). linesText (i + 1) (cachesIn fs bs) (drop n orders)) e ∙ lines-past (i + 1) (cachesIn fs bs) orders in
+      let none : linesText (p .order + 1) (cachesIn fs bs) (drop (p .at + k) orders) ≡ [] =
+      ap (λ (n : ℕ). linesText (p .order + 1) (cachesIn fs bs) (drop n orders)) e ∙ lines-past (p .order + 1) (cachesIn fs bs) orders in
       record {
         part = record {
-          text = refusedText i 1;
+          text = refusedText (p .order) 1;
           put = t;
-          rest = last-line i (cachesIn fs bs) orders (p .at) found left e ∙ sym (append-nil (refusedText i 1)) ∙ ap (λ (x : List ℕ). refusedText i 1 ++ x) (sym none);
+          rest = last-line (p .order) (cachesIn fs bs) orders (p .at) found left e ∙ sym (append-nil (refusedText (p .order) 1)) ∙ ap (λ (x : List ℕ). refusedText (p .order) 1 ++ x) (sym none);
           within = omega arith;
           next = λ h. absurd (omega arith);
         };
@@ -135,20 +132,20 @@ module _ {orders fs bs out : List ℕ} {p : Part} (left : p .at < length orders)
       }
 
   pub put-line : {r : ℕ} {fs′ bs′ out′ : List ℕ} → (p .at + k ≡ length orders → ⊥)
-      → RanLine fs bs i (take (p .at + k - p .at) (drop (p .at) orders)) out r fs′ bs′ out′
-      → PutsNext orders fs bs out p (record { bytes = r; at = p .at + k + 1; order = i + 1 }) fs′ bs′ out′
+      → RanLine fs bs (p .order) (take (p .at + k - p .at) (drop (p .at) orders)) out r fs′ bs′ out′
+      → PutsNext orders fs bs out p (record { bytes = r; at = p .at + k + 1; order = p .order + 1 }) fs′ bs′ out′
   put-line {r} {fs′} {bs′} {out′} e h =
       let inside : p .at + k < length orders = omega (arith, place-within orders (p .at) found) in
-      let ran = ran-line fs bs i _ out r fs′ bs′ out′ h in
-      let x : Printed = printed i (cachesIn fs bs) (take (p .at + k - p .at) (drop (p .at) orders)) in
+      let ran = ran-line fs bs (p .order) _ out r fs′ bs′ out′ h in
+      let x : Printed = printed (p .order) (cachesIn fs bs) (take (p .at + k - p .at) (drop (p .at) orders)) in
       record {
         part = record {
           text = x .text;
           put = ran .text;
-          rest = next-line i (cachesIn fs bs) orders (p .at) found inside
-              ∙ ap (λ (c : Caches). x .text ++ linesText (i + 1) c (drop (p .at + k + 1) orders)) (sym (ran .caches));
+          rest = next-line (p .order) (cachesIn fs bs) orders (p .at) found inside
+              ∙ ap (λ (c : Caches). x .text ++ linesText (p .order + 1) c (drop (p .at + k + 1) orders)) (sym (ran .caches));
           within = omega arith;
-          next = λ more. record { few = can .few; number = omega (arith, can .number); called = called-after fs bs i _ out r fs′ bs′ out′ (can .called) h };
+          next = λ more. record { few = can .few; number = omega (arith, can .number); called = called-after fs bs (p .order) _ out r fs′ bs′ out′ (can .called) h };
         };
         further = omega arith;
       }
@@ -160,9 +157,9 @@ unfolding sheetText
 sheet-is chart orders = refl
 
 -- a refused sheet is that line
-pub begin-refused : {chart orders out : List ℕ} {n : ℕ} {p : Part} {fs bs out′ : List ℕ} → sheetText chart orders ≡ refusedLine n → RefusedPart orders out n p out′
+pub begin-refused : (chart : List ℕ) {orders out : List ℕ} (n : ℕ) {p : Part} (fs bs : List ℕ) {out′ : List ℕ} → sheetText chart orders ≡ refusedLine n → RefusedPart orders out n p out′
     → Begins chart orders out p fs bs out′
-begin-refused {chart} {orders} {out} {n} {p} {fs} {bs} e h =
+begin-refused chart {orders} {out} n {p} fs bs e h =
     let none : linesText (p .order) (cachesIn fs bs) (drop (p .at) orders) ≡ [] =
     ap (λ (k : ℕ). linesText (p .order) (cachesIn fs bs) (drop k orders)) (h .end) ∙ lines-past (p .order) (cachesIn fs bs) orders in
     record {
@@ -192,10 +189,10 @@ module _ (chart orders : List ℕ) where
           ∙ ap (λ (b : Bool). filesText false b chart orders) (sym fewer)
 
       -- either direction's refusal is the chart's
-      pub chart-refused : {ws left : List ℕ} {d : ℕ} {f : Refusal} {line : ℕ} → firstFault (measureFaults d lentSlots) ≡ none → length ws ≡ lentWords
+      pub chart-refused : (ws left : List ℕ) (d : ℕ) (f : Refusal) (line : ℕ) → firstFault (measureFaults d lentSlots) ≡ none → length ws ≡ lentWords
           → Opening ws chart d lentSlots (opening.Refused f line) left → sheetText chart orders ≡ refusedLine (number f)
       unfolding openCache
-      chart-refused {ws} {left} {d} {f} {line} fine size h =
+      chart-refused ws left d f line fine size h =
           charted ∙ go (readGraph chart) (ap (λ (x : AfterOpen). x .reply) (h ∙ ap (λ (o : Option ℕ). openBy o ws chart d lentSlots) fine))
         where
           by : (g : Graph) (b : Bool) → b ≡ ltb (length ws) (needed (vertexCount g) (edgeCount g) lentSlots) → refused (number f) line ≡ openIf b g ws d lentSlots .reply
@@ -210,10 +207,10 @@ module _ (chart orders : List ℕ) where
           go (answered g) r = by g (ltb (length ws) (needed (vertexCount g) (edgeCount g) lentSlots)) refl r
 
       -- both caches were opened
-      pub begin-opened : {fs bs fs′ bs′ out out′ : List ℕ} {r : ℕ} → length fs ≡ lentWords → length orders ≤ 65536
+      pub begin-opened : (fs bs : List ℕ) {fs′ bs′ out out′ : List ℕ} {r : ℕ} → length fs ≡ lentWords → length orders ≤ 65536
           → Opening fs chart 0 lentSlots opening.Opened fs′ → Opening bs chart 1 lentSlots opening.Opened bs′ → Puts out 0 title r out′
           → Begins chart orders out (record { bytes = r; at = 0; order = 0 }) fs′ bs′ out′
-      begin-opened {fs} {bs} {fs′} {bs′} size few f b t =
+      begin-opened fs bs {fs′} {bs′} size few f b t =
           let x : Opens fs chart 0 lentSlots fs′ = demand-1 fs chart 0 lentSlots opening.Opened fs′ f .opened refl in
           let y : Opens bs chart 1 lentSlots bs′ = demand-1 bs chart 1 lentSlots opening.Opened bs′ b .opened refl in
           let g : Graph = x .graph in
@@ -222,7 +219,9 @@ module _ (chart orders : List ℕ) where
             forward = sym (x .cache) j;
             backward = (ap (λ (z : Graph). opened backward z lentSlots) (sym same) ∙ sym (y .cache)) j;
           } in
-          let enough : ltb lentWords (needed (vertexCount g) (edgeCount g) lentSlots) ≡ false = le-ltb _ _ (omega (arith, x .fits, size)) in
+          let words : ℕ = needed (vertexCount g) (edgeCount g) lentSlots in
+          let fits : words ≤ lentWords = rw size at (x .fits) in
+          let enough : ltb lentWords words ≡ false = le-ltb lentWords words fits in
           record {
             text = title;
             put = t;
@@ -236,19 +235,18 @@ module _ (chart orders : List ℕ) where
 
 -- ---- the parts one after the other
 
-module _ {chart orders out fs bs out′ : List ℕ} {p : Part} where
-  pub written-first : Begins chart orders out p fs bs out′ → Written chart orders fs bs p
-  written-first x = record { before = x .text; rest = x .rest; within = x .within; next = x .next }
+pub written-first : {chart orders out fs bs out′ : List ℕ} {p : Part} → Begins chart orders out p fs bs out′ → Written chart orders fs bs p
+written-first x = record { before = x .text; rest = x .rest; within = x .within; next = x .next }
 
-  pub written-next : Written chart orders fs bs p → {q : Part} {fs′ bs′ out″ : List ℕ} → PutsNext orders fs bs out p q fs′ bs′ out″
-      → Written chart orders fs′ bs′ q
-  written-next w {q} {fs′} {bs′} x = record {
-    before = w .before ++ x .part .text;
-    rest = w .rest ∙ ap (λ (l : List ℕ). w .before ++ l) (x .part .rest)
-        ∙ sym (append-assoc (w .before) (x .part .text) (linesText (q .order) (cachesIn fs′ bs′) (drop (q .at) orders)));
-    within = x .part .within;
-    next = x .part .next;
-  }
+pub written-next : {chart orders out fs bs : List ℕ} {p : Part} → Written chart orders fs bs p
+    → {q : Part} {fs′ bs′ out′ : List ℕ} → PutsNext orders fs bs out p q fs′ bs′ out′ → Written chart orders fs′ bs′ q
+written-next {orders = orders} w {q} {fs′} {bs′} x = record {
+  before = w .before ++ x .part .text;
+  rest = w .rest ∙ ap (λ (l : List ℕ). w .before ++ l) (x .part .rest)
+      ∙ sym (append-assoc (w .before) (x .part .text) (linesText (q .order) (cachesIn fs′ bs′) (drop (q .at) orders)));
+  within = x .part .within;
+  next = x .part .next;
+}
 
 parts-are : {orders fs bs : List ℕ} {p : Part} {l : List ℕ} → Parts orders fs bs p l → l ≡ linesText (p .order) (cachesIn fs bs) (drop (p .at) orders)
 parts-are {orders} {fs} {bs} {p} (no-more e) =

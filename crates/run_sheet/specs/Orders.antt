@@ -57,7 +57,7 @@ orderedBy (answered x) r i = let d = solve maxSteps (r .cache) (r .search) in re
 
 -- order i from the starts ss to the goals gs, on the cache c of its direction
 unfoldable pub ordered : ℕ → Cache → List ℕ → List ℕ → Ordered
-unfolding solve initialize retrace
+unfolding solve initialize retrace lineOf
 ordered i c ss gs = let r = initialize c ss gs in orderedBy (r .reply) r i
 
 -- ---- the line is right, whatever was called before: demand 3, of what is printed

@@ -110,5 +110,5 @@ filesText false true chart orders = refusedLine 4
 filesText false false chart orders = chartText (readGraph chart) orders
 
 unfoldable pub sheetText : List ℕ → List ℕ → List ℕ
-unfolding title linesText readGraph
+unfolding title linesText readGraph opened refusedLine
 sheetText chart orders = filesText (isOverlong chart) (isOverlong orders) chart orders

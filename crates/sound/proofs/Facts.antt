@@ -6,7 +6,6 @@ use mathlib.Core.List.{List}
 use Prim.Native.Nat.{ℕ, _+_, _-_, _<_, _≤_}
 use native.Mathlib.Decide.{ℕ-discrete}
 use native.Mathlib.Omega.{arith}
-use borrow.Author.Tests.{le-leb}
 use lib.ListN.{length, getD}
 use Rattle.model.specs.Lists.{allb}
 use Rattle.model.specs.Graph.{Domain, Accepted, vertexCount}
@@ -23,7 +22,7 @@ use Rattle.tree.specs.Tree.{Formed}
 use Rattle.tree.proofs.Parts.{zeros-at, at-zeros}
 use Rattle.tree.proofs.Form.{formed-at, at-formed}
 use Rattle.sound.specs.Facts.{SoundWords}
-use Rattle.sound.proofs.Header.{headed}
+use Rattle.sound.proofs.Header.{headed, at-headed}
 use Rattle.sound.proofs.Held.{held-at, at-held}
 use Rattle.sound.proofs.Slots.{slot-length, tree-in-at, start-in-at, trees-in-length, starts-in-length}
 
@@ -91,16 +90,15 @@ module _ (ws : List ℕ) where
 
   module _ (ok : SoundWords ws) where
     header-passes : allb (headerTests ws) ≡ true
-    header-passes =
-        true-given (headerTests ws)
-        (le-leb _ _ (ok .header))
-        (le-leb _ _ (ok .direction))
-        (le-leb _ _ (ok .held .sized .vertices))
-        (le-leb _ _ (ok .held .sized .edges))
-        (le-leb _ _ (ok .some-slot))
-        (le-leb _ _ (ok .slots))
-        (le-leb _ _ (ok .used))
-        (le-leb _ _ (ok .fits))
+    header-passes = at-headed ws (record {
+      header = ok .header;
+      direction = ok .direction;
+      sized = ok .held .sized;
+      some-slot = ok .some-slot;
+      slots = ok .slots;
+      used = ok .used;
+      fits = ok .fits;
+    })
 
     trees-pass : allb (treesTests ws) ≡ true
     unfolding readCache

@@ -14,7 +14,7 @@ use lib.ListN.{length, getD, drop, drop-of-length-le}
 use lib.Seq.{drop-cons}
 use Rattle.model.specs.Lists.{allb}
 use Rattle.model.specs.Graph.{Graph, absent, from, to, vertexCount}
-use Rattle.model.proofs.Bools.{all-true}
+use Rattle.model.proofs.Bools.{all-true, true-given}
 use Rattle.layout.specs.Layout.{Sized, edgeAt, nodeAt, queueAt, closedAt, needed, part}
 use Rattle.layout.specs.Read.{graphIn}
 use Rattle.layout.specs.Sound.{headerTests, initialb, edgeTests, zerosb, spareTests}
@@ -83,6 +83,18 @@ headed ws e =
       used = leb-true _ _ (r₄ .1 .1 .0);
       fits = leb-true _ _ (r₄ .1 .1 .1 .0);
     }
+
+pub at-headed : (ws : List ℕ) → Headed (getD ws 1 0) (getD ws 2 0) (getD ws 3 0) (getD ws 4 0) ws → allb (headerTests ws) ≡ true
+at-headed ws h =
+    true-given (headerTests ws)
+    (le-leb _ _ (h .header))
+    (le-leb _ _ (h .direction))
+    (le-leb _ _ (h .sized .vertices))
+    (le-leb _ _ (h .sized .edges))
+    (le-leb _ _ (h .some-slot))
+    (le-leb _ _ (h .slots))
+    (le-leb _ _ (h .used))
+    (le-leb _ _ (h .fits))
 
 -- ---- initial costs and edges
 

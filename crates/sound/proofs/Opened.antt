@@ -1,8 +1,9 @@
--- Opening and the definition of sound words: what opening leaves is sound, and sound words are such as opening writes before the slots.
+-- Opening and the definition of sound words: what opening leaves is sound, and header and graph of words pass their tests exactly if
+-- they are such as opening writes.
 -- Assumes nothing.
 use mathlib.Core.Path.{_≡_, refl, sym, ap, ap₂, _∙_, subst}
 use mathlib.Core.Logic.{_≢_}
-use mathlib.Core.Bool.{true}
+use mathlib.Core.Bool.{true, _&&_}
 use mathlib.Core.List.{List, _++_}
 use Prim.Native.Nat.{ℕ, zero, suc, _+_, _-_, _*_, _/_, _<_, _≤_}
 use native.Mathlib.Decide.{decLt}
@@ -11,15 +12,17 @@ use native.Mathlib.Omega.{arith}
 use borrow.Author.Tests.{le-leb, le-ltb}
 use lib.ListN.{length, getD, drop, length-append}
 use Rattle.model.specs.declared.OpenAnswer.the-variants.{Opened}
+use Rattle.model.specs.Lists.{allb}
 use Rattle.model.specs.Graph.{Graph, Direction, forward, backward, Domain, Accepted, vertexCount, edgeCount, from, to, cost, domain, edgeNumbers}
 use Rattle.model.specs.Calls.{Cache, opened, written}
+use Rattle.model.proofs.Bools.{and-true, true-and}
 use Rattle.model.proofs.Reversed.{accepted-domain, domain-twice, domain-counts}
 use Rattle.text.specs.Print.{printed}
 use Rattle.text.proofs.Printed.{prints}
 use Rattle.layout.specs.Layout.{initialAt, edgesAt, placesAt, numbersAt, slotsAt, needed}
 use Rattle.layout.specs.Words.{directionWord, firstPlace, openedWords}
 use Rattle.layout.specs.Read.{directionOf, graphIn, domainOf, readCache}
-use Rattle.layout.specs.Sound.{soundWordsb}
+use Rattle.layout.specs.Sound.{headerTests, graphTests, treesTests, soundWordsb}
 use Rattle.layout.specs.Held.{Held}
 use Rattle.layout.proofs.Edges.{initial-word, vertex-count-in, edge-count-in, from-word, to-word, cost-word}
 use Rattle.cache.specs.Open.{afterOpen, openCache}
@@ -27,9 +30,11 @@ use Rattle.cache.specs.Demand1.{Opens}
 use Rattle.cache.proofs.Opened.{word-of, opened-length, read-opened}
 use Rattle.cache.proofs.OpenedKinds.{place-word, number-word, slot-word}
 use Rattle.cache.proofs.Demand1.{demand-1}
-use Rattle.sound.specs.Opened.{SuchAsOpening}
-use Rattle.sound.specs.Facts.{SoundIn, SoundWords}
-use Rattle.sound.proofs.Facts.{sound-words-at, at-sound-words}
+use Rattle.sound.specs.Opened.{SuchAsOpening, ExactlySuch}
+use Rattle.sound.specs.Facts.{SoundIn}
+use Rattle.sound.proofs.Header.{Headed, headed, at-headed}
+use Rattle.sound.proofs.Held.{held-at, at-held, held-same}
+use Rattle.sound.proofs.Facts.{at-sound-words}
 
 word-within : (dir : Direction) → directionWord dir ≤ 1
 word-within forward = omega arith
@@ -63,6 +68,9 @@ module _ (dir : Direction) (g : Graph) (t : ℕ) (rest : List ℕ) where
       place = λ v h. place-word dir g t rest v h ∙ ap (λ (d : Domain). firstPlace d v) (sym opened-domain);
       number = λ p h. number-word dir g t rest ok p h ∙ ap (λ (d : Domain). getD (edgeNumbers d) p 0) (sym opened-domain);
     }
+
+    held-as : (m′ l′ : ℕ) → (m ≡ m′) × (l ≡ l′) → Held m′ l′ ws
+    held-as m′ l′ e = subst (λ (n : ℕ). Held m′ n ws) (e .1) (subst (λ (n : ℕ). Held n l ws) (e .0) opened-held)
 
     module _ (slots : (1 ≤ t) × (t ≤ 64)) where
       -- no tree is in use, and the words of the slots are 0
@@ -127,9 +135,9 @@ module _ (m l : ℕ) (a b : List ℕ) (ha : Held m l a) (hb : Held m l b) (one :
     ]
   ]
 
--- ---- the opening that writes sound words
+-- ---- header and graph pass exactly of words such as opening writes
 
-module _ (ws : List ℕ) (sound : soundWordsb ws ≡ true) where
+module _ (ws : List ℕ) where
   abbrev dir : Direction
   dir = directionOf (getD ws 0 0)
 
@@ -142,72 +150,110 @@ module _ (ws : List ℕ) (sound : soundWordsb ws ≡ true) where
   abbrev slots : ℕ
   slots = getD ws 3 0
 
-  ok : SoundWords ws
-  ok = sound-words-at ws sound
+  module _ (ok : Headed vertices edges slots (getD ws 4 0) ws) (held : Held vertices edges ws) where
+    -- the graph of the text
+    abbrev textGraph : Graph
+    textGraph = domain dir (graphIn vertices edges ws) .graph
 
-  -- the graph of the text
-  abbrev textGraph : Graph
-  textGraph = domain dir (graphIn vertices edges ws) .graph
+    accepted : Accepted textGraph
+    accepted = accepted-domain dir (graphIn vertices edges ws) (held .accepted)
 
-  accepted : Accepted textGraph
-  accepted = accepted-domain dir (graphIn vertices edges ws) (ok .held .accepted)
+    counts : (vertexCount textGraph ≡ vertices) × (edgeCount textGraph ≡ edges)
+    counts =
+        let c = domain-counts dir (graphIn vertices edges ws) in
+        (c .0 ∙ vertex-count-in vertices edges ws (omega (arith, held .fits)), c .1 ∙ edge-count-in vertices edges ws)
 
-  counts : (vertexCount textGraph ≡ vertices) × (edgeCount textGraph ≡ edges)
-  counts =
-      let c = domain-counts dir (graphIn vertices edges ws) in
-      (c .0 ∙ vertex-count-in vertices edges ws (omega (arith, ok .held .fits)), c .1 ∙ edge-count-in vertices edges ws)
+    room : needed (vertexCount textGraph) (edgeCount textGraph) slots ≤ length ws
+    room = rw (counts .0, counts .1) (ok .fits)
 
-  room : needed (vertexCount textGraph) (edgeCount textGraph) slots ≤ length ws
-  room = rw (counts .0, counts .1) (ok .fits)
+    abbrev rest : List ℕ
+    rest = drop (length (openedWords dir textGraph slots)) ws
 
-  abbrev rest : List ℕ
-  rest = drop (length (openedWords dir textGraph slots)) ws
+    abbrev left : List ℕ
+    left = written (openedWords dir textGraph slots) ws
 
-  abbrev left : List ℕ
-  left = written (openedWords dir textGraph slots) ws
+    -- the opening is accepted
+    accepts : afterOpen Opened left ≡ openCache ws (printed textGraph) (getD ws 0 0) slots
+    unfolding openCache
+    accepts =
+        rw (
+          le-ltb 1 (getD ws 0 0) (ok .direction),
+          le-leb 1 slots (ok .some-slot),
+          le-leb slots 64 (ok .slots),
+          prints .reads textGraph accepted,
+          le-ltb (length ws) (needed (vertexCount textGraph) (edgeCount textGraph) slots) room,
+        )
 
-  -- the opening is accepted
-  accepts : afterOpen Opened left ≡ openCache ws (printed textGraph) (getD ws 0 0) slots
-  unfolding openCache
-  accepts =
-      rw (
-        le-ltb 1 (getD ws 0 0) (ok .direction),
-        le-leb 1 slots (ok .some-slot),
-        le-leb slots 64 (ok .slots),
-        prints .reads textGraph accepted,
-        le-ltb (length ws) (needed (vertexCount textGraph) (edgeCount textGraph) slots) room,
-      )
+    same-domain : domainOf vertices edges left ≡ domainOf vertices edges ws
+    same-domain =
+        ap₂ (λ (m l : ℕ). domainOf m l left) (sym (counts .0)) (sym (counts .1))
+        ∙ opened-domain dir textGraph slots rest
+        ∙ domain-twice dir (graphIn vertices edges ws)
 
-  left-held : Held vertices edges left
-  left-held =
-      subst (λ (n : ℕ). Held vertices n left) (counts .1)
-      (subst (λ (n : ℕ). Held n (edgeCount textGraph) left) (counts .0) (opened-held dir textGraph slots rest accepted))
+    header-same : (j : ℕ) → j < 5 → j ≢ 4 → getD left j 0 ≡ getD ws j 0
+    unfolding openedWords
+    header-same zero h n = word-of (getD ws 0 0) (ok .direction)
+    header-same (suc zero) h n = counts .0
+    header-same (suc (suc zero)) h n = counts .1
+    header-same (suc (suc (suc zero))) h n = refl
+    header-same (suc (suc (suc (suc j)))) h n = absurd (n (omega arith))
 
-  same-domain : domainOf vertices edges left ≡ domainOf vertices edges ws
-  same-domain =
-      ap₂ (λ (m l : ℕ). domainOf m l left) (sym (counts .0)) (sym (counts .1))
-      ∙ opened-domain dir textGraph slots rest
-      ∙ domain-twice dir (graphIn vertices edges ws)
+    writes : SuchAsOpening ws
+    writes = record {
+      text = printed textGraph;
+      left = left;
+      opens = demand-1 ws (printed textGraph) (getD ws 0 0) slots Opened left accepts .opened refl;
+      same = λ j h n. elim (decLt j 5) [
+        | yes k ↦ header-same j k n
+        | no k ↦ graph-words vertices edges left ws (held-as dir textGraph slots rest accepted vertices edges counts) held same-domain j (omega arith) h
+      ];
+      used = ok .used;
+    }
 
-  header-same : (j : ℕ) → j < 5 → j ≢ 4 → getD left j 0 ≡ getD ws j 0
-  unfolding openedWords
-  header-same zero h n = word-of (getD ws 0 0) (ok .direction)
-  header-same (suc zero) h n = counts .0
-  header-same (suc (suc zero)) h n = counts .1
-  header-same (suc (suc (suc zero))) h n = refl
-  header-same (suc (suc (suc (suc j)))) h n = absurd (n (omega arith))
+  -- and back
+  module _ (such : SuchAsOpening ws) where
+    abbrev opening : Opens ws (such .text) (getD ws 0 0) slots (such .left)
+    opening = such .opens
 
-  writes : SuchAsOpening ws
-  writes = record {
-    text = printed textGraph;
-    left = left;
-    opens = demand-1 ws (printed textGraph) (getD ws 0 0) slots Opened left accepts .opened refl;
-    same = λ j h n. elim (decLt j 5) [
-      | yes k ↦ header-same j k n
-      | no k ↦ graph-words vertices edges left ws left-held (ok .held) same-domain j (omega arith) h
-    ];
-  }
+    abbrev written-graph : Graph
+    written-graph = opening .graph
 
--- the header and graph words of sound words, but the count of trees in use, are those that opening writes with the text of their graph
+    word : (j : ℕ) → j < 5 → j ≢ 4 → getD (written (openedWords dir written-graph slots) ws) j 0 ≡ getD ws j 0
+    word j h n = ap (λ (x : List ℕ). getD x j 0) (sym (opening .words)) ∙ such .same j (omega arith) n
+
+    sizes : (vertexCount written-graph ≡ vertices) × (edgeCount written-graph ≡ edges)
+    unfolding openedWords
+    sizes = (word 1 (omega arith) (omega arith), word 2 (omega arith) (omega arith))
+
+    left-held : Held vertices edges (such .left)
+    left-held = rw (opening .words) (held-as dir written-graph slots _ (opening .accepted) vertices edges sizes)
+
+    still-held : Held vertices edges ws
+    still-held = held-same vertices edges (such .left) ws (sym (opening .same-length)) (λ j n h. sym (such .same j h n)) left-held
+
+    header : Headed vertices edges slots (getD ws 4 0) ws
+    header =
+        let fits : needed vertices edges slots ≤ length ws = rw (← sizes .0, ← sizes .1) (opening .fits) in
+        record {
+          header = omega arith;
+          direction = opening .direction;
+          sized = still-held .sized;
+          some-slot = opening .slots .0;
+          slots = opening .slots .1;
+          used = such .used;
+          fits = fits;
+        }
+
+pub exactly-such : ExactlySuch
+exactly-such ws = (
+  λ e. let p = and-true (allb (headerTests ws)) (allb (graphTests (readCache ws .domain) ws)) e in writes ws (headed ws (p .0)) (held-at ws (p .0) (p .1)),
+  λ such. true-and (allb (headerTests ws)) (allb (graphTests (readCache ws .domain) ws)) (at-headed ws (header ws such)) (at-held ws (still-held ws such)),
+)
+
+-- so it is of sound words
 pub such-as-opening : (ws : List ℕ) → soundWordsb ws ≡ true → SuchAsOpening ws
-such-as-opening = writes
+unfolding soundWordsb
+such-as-opening ws e =
+    let p = and-true (allb (headerTests ws)) (allb (graphTests (readCache ws .domain) ws) && allb (treesTests ws)) e in
+    let q = and-true (allb (graphTests (readCache ws .domain) ws)) (allb (treesTests ws)) (p .1) in
+    exactly-such ws .0 (true-and (allb (headerTests ws)) (allb (graphTests (readCache ws .domain) ws)) (p .0) (q .0))

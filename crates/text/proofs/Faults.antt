@@ -1,16 +1,19 @@
--- The fault of a text is the first: "lines downward".
+-- A text is refused exactly by its first fault: "lines downward".
 -- Assumes nothing.
-use mathlib.Core.Path.{_≡_, refl, ap, _∙_}
+use mathlib.Core.Path.{_≡_, refl, sym, ap, _∙_}
 use mathlib.Core.List.{List, [], _∷_}
 use mathlib.Core.Option.{Option, none, some}
-use Prim.Native.Nat.{ℕ, suc, _+_}
+use Prim.Native.Nat.{ℕ, zero, suc, _+_, _<_}
 use native.Mathlib.Omega.{arith}
-use Rattle.model.specs.Answers.{refused}
+use lib.ListN.{length, getD, take}
+use Rattle.model.specs.Answers.{answered, refused}
 use Rattle.model.specs.Calls.{firstFault}
+use Rattle.model.proofs.Replies.{answered-refused}
 use Rattle.text.specs.declared.lines.Line.{Line}
+use Rattle.text.specs.declared.lines.Line.the-variants.{Illegal}
 use Rattle.text.specs.declared.counts.Counts.{Counts}
 use Rattle.text.specs.Lines.{linesOf}
-use Rattle.text.specs.Read.{lineFaults, counted, unlessFault, judgeFrom, noCounts, judge, FaultFrom, FirstFault}
+use Rattle.text.specs.Read.{lineFaults, counted, unlessFault, judgeFrom, noCounts, judge, FaultFrom, RefusedExactly}
 
 fault-from : (n : ℕ) (k : Counts) (xs : List Line) (f at : ℕ) → judgeFrom n k xs ≡ refused f at → FaultFrom n k xs f at
 unfolding judgeFrom
@@ -35,6 +38,29 @@ fault-from n k (x ∷ xs) f at e = go (firstFault (lineFaults k x)) refl e (faul
           fault = b .fault;
         }
 
-pub first-fault : (text : List ℕ) (f at : ℕ) → judge text ≡ refused f at → FirstFault text f at
+-- and back: where the lines above pass, the fault of the line is the answer
+module _ (counts : Counts) (f : ℕ) where
+  refused-from : (above n : ℕ) (k : Counts) (xs : List Line) → above < length xs → judgeFrom n k (take above xs) ≡ answered counts
+      → firstFault (lineFaults counts (getD xs above Illegal)) ≡ some f → judgeFrom n k xs ≡ refused f (above + n)
+  unfolding judgeFrom
+  refused-from zero n k [] h p q = absurd (omega arith)
+  refused-from (suc above) n k [] h p q = absurd (omega arith)
+  refused-from zero n k (x ∷ xs) h p q =
+      let same : k ≡ counts = cc in
+      let fault : firstFault (lineFaults k x) ≡ some f = rw same q in
+      rw fault (ap (refused f) (omega arith))
+  refused-from (suc above) n k (x ∷ xs) h p q =
+      go (firstFault (lineFaults k x)) p (λ r. refused-from above (n + 1) (counted k x) xs (omega arith) r q ∙ ap (refused f) (omega arith))
+    where
+      go : (o : Option ℕ) → unlessFault o n (judgeFrom (n + 1) (counted k x) (take above xs)) ≡ answered counts
+          → (judgeFrom (n + 1) (counted k x) (take above xs) ≡ answered counts → judgeFrom (n + 1) (counted k x) xs ≡ refused f (suc above + n))
+          → unlessFault o n (judgeFrom (n + 1) (counted k x) xs) ≡ refused f (suc above + n)
+      go (some g) r below = absurd (answered-refused counts g n (sym r))
+      go none r below = below r
+
+pub first-fault : RefusedExactly
 unfolding judge
-first-fault text f at e = fault-from 1 noCounts (linesOf text) f at e
+first-fault text f at = (
+  fault-from 1 noCounts (linesOf text) f at,
+  λ b. refused-from (b .counts) f (b .above) 1 noCounts (linesOf text) (b .inside) (b .passed) (b .fault) ∙ ap (refused f) (sym (b .place)),
+)

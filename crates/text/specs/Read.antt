@@ -1,6 +1,7 @@
 -- The graph of a text, or the first fault of its lines.
 -- Assumes nothing.
 use mathlib.Core.Path.{_≡_}
+use mathlib.Core.Logic.{_↔_}
 use mathlib.Core.Bool.{Bool, true, false, not, _||_}
 use mathlib.Core.List.{List, [], _∷_}
 use mathlib.Core.Option.{Option, none, some}
@@ -76,6 +77,10 @@ pub record FaultFrom (n : ℕ) (k : Counts) (xs : List Line) (f at : ℕ) : Type
 
 abbrev pub FirstFault : List ℕ → ℕ → ℕ → Type 0
 FirstFault text f at = FaultFrom 1 noCounts (linesOf text) f at
+
+-- "Given exactly if", "Order: .. then lines downward (each 1, 2, 4, 3)"
+abbrev pub RefusedExactly : Type 0
+RefusedExactly = (text : List ℕ) (f at : ℕ) → (judge text ≡ refused f at) ↔ FirstFault text f at
 
 -- ---- the graph: "numbers run 0, 1, 2 in order"; "Links are numbered from 0 in file order"
 
