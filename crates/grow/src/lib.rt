@@ -128,12 +128,13 @@ fn push_choices(words: &mut [u32], s: Slot, node: u32, vertex: u32, cost: u32)
     let mut place = layout::first_place(words, s.vertices, s.edges, wide(vertex));
     let end = layout::first_place(words, s.vertices, s.edges, wide(vertex) + 1);
     loop {
-        let NextEdge::Edge { edge, place: after } = next_edge(&words[numbers..slots], place, end)
-        else {
+        let next = next_edge(&words[numbers..slots], place, end);
+        let found = next.edge;
+        let NextEdge::Edge(edge) = found else {
             return;
         };
         push_choice(words, s, node, cost, edge);
-        place = after;
+        place = next.place;
     }
 }
 
