@@ -54,7 +54,7 @@ pub fn put_node(tree: &mut [u32], number: usize, node: Node)
     requires { ⌜ nodeAt number + 4 ≤ length (now tree) ⌝ }
     ensures { λ _. ⌜ now (tree .exit) ≡ sets (now (tree .entry)) (nodeAt number) (node .vertex ∷ node .cost ∷ node .parent ∷ node .edge ∷ []) ⌝ }
 {
-    let at = layout::NODES_AT + 4 * number;
+    let at = layout::node_at(number);
     tree[at] = node.vertex;
     tree[at + 1] = node.cost;
     tree[at + 2] = node.parent;
