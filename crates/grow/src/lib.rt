@@ -48,17 +48,17 @@ pub fn grow(words: &mut [u32], slot: usize, goals: &[u32], bound: CostBound) -> 
     ensures { λ r. ⌜ Grew (now (words .entry)) slot (now (goals .entry)) bound r (now (words .exit)) ⌝ }
 {
     let s = slot_of(words, slot);
-    let at = s.at;
-    let end = s.end;
+    let Slot { at, end, .. } = s;
     let mut left = ITERATIONS_PER_STEP;
     let mut tickets: usize = 0;
     while 0 < left {
-        let Popped::Ticket(node, _) = tree::pop(&mut words[at..end], s.edges) else {
+        let Popped::Ticket(node, queued) = tree::pop(&mut words[at..end], s.edges) else {
             return Growth {
                 tickets,
                 solution: Solution::Unsolved,
             };
         };
+        tree::set_queued(&mut words[at..end], queued);
         left -= 1;
         tickets += 1;
         match visit(words, s, node, goals, bound) {
@@ -104,8 +104,7 @@ fn visit(words: &mut [u32], s: Slot, node: u32, goals: &[u32], bound: CostBound)
     requires { ⌜ CanVisit s (now words) node ⌝ }
     ensures { λ r. ⌜ Visits s (now (words .entry)) (now (words .exit)) node (now (goals .entry)) bound r ⌝ }
 {
-    let at = s.at;
-    let end = s.end;
+    let Slot { at, end, .. } = s;
     let vertex = layout::node_word(&words[at..end], wide(node), layout::NODE_VERTEX);
     let cost = layout::node_word(&words[at..end], wide(node), layout::NODE_COST);
     match close(&mut words[at..end], s.edges, wide(vertex), node) {
@@ -150,8 +149,7 @@ fn push_choice(words: &mut [u32], s: Slot, node: u32, cost: u32, edge: u32)
         parent: node,
         edge,
     };
-    let at = s.at;
-    let end = s.end;
+    let Slot { at, end, .. } = s;
     tree::push_node(&mut words[at..end], s.edges, child);
 }
 
