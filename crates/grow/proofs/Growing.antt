@@ -6,7 +6,7 @@ use mathlib.Core.List.{List}
 use Prim.Native.Nat.{ℕ, suc, _+_, _-_, _<_, _≤_}
 use native.Mathlib.Omega.{arith}
 use borrow.Rule.Slice.PartMut.{putMid, midOf, put-same}
-use lib.ListN.{length, getD}
+use lib.ListN.{length, getD, set, length-set}
 use Rattle.model.specs.declared.CostBound.{CostBound}
 use Rattle.model.specs.declared.Solution.the-variants.{Unsolved, At}
 use Rattle.model.specs.Graph.{Domain}
@@ -25,7 +25,7 @@ use Rattle.grow.specs.declared.Going.{Going as Next}
 use Rattle.grow.specs.declared.Going.the-variants as next
 use Rattle.grow.specs.declared.Slot.{Slot}
 use Rattle.grow.specs.Grow.{InUse, growthOf, Grew, slotOf, treeAt, domainAt, Ready, Holds, CanVisit, goingOf, Visits}
-use Rattle.grow.proofs.Slots.{mid-slot, tree-lent, put-holds, holds-trans, holds-refl, ready-after, domain-after}
+use Rattle.grow.proofs.Slots.{mid-slot, tree-lent, part-size, lent-again, put-again, put-holds, holds-trans, holds-refl, ready-after, domain-after}
 use Rattle.grow.proofs.Tickets.{stepped, ticket-is, ticket-none, ticket-sound, grow-over, grow-found}
 use Rattle.grow.proofs.Room.{can-visit}
 use Rattle.grow.proofs.Kept.{slot-ready, kept}
@@ -123,30 +123,47 @@ module _ {ws : List ℕ} {i : ℕ} {gs : List ℕ} {b : CostBound} {s : Slot} {w
         rw (q .1, put-same (s .at) (s .end - s .at) words)
         (finished (next-is ∙ ap (grow d gs b (left - 1)) (ticket-none d gs b t tickets none-left) ∙ grow-over d gs b (left - 1) t tickets) (g .holds))
 
-    module _ {k m : ℕ} {r : Popped} (p : PopIs (s .edges) lent ys r) (e : r ≡ Ticket k m) where
-      pops : Pops (s .edges) lent ys k m
-      pops = rw e at p
+    -- the queue's length can be stored
+    pub can-store : 2 < length (midOf (s .at) (s .end - s .at) mid)
+    can-store = rw (lent-again (g .ready) ys same) (omega (arith, part-size (g .ready) ys same))
+
+    module _ {k m : ℕ} {r : Popped} (p : PopIs (s .edges) lent ys r) (e : r ≡ Ticket k m)
+        {zs : List ℕ} (put : zs ≡ set (midOf (s .at) (s .end - s .at) mid) 2 m) where
+      -- the tree's words, and all words, with the length stored
+      abbrev us : List ℕ
+      us = set ys 2 m
+
+      abbrev stored : List ℕ
+      stored = putMid (s .at) (s .end - s .at) mid zs
+
+      pops : Pops (s .edges) lent us k m
+      pops = let q : PopIs (s .edges) lent ys (Ticket k m) = rw e at p in q .1
 
       least-is : least (t .nodes) (t .waiting) ≡ some k
       least-is = subst (λ (x : Tree). least (x .nodes) (x .waiting) ≡ some k) (tree-lent (g .ready)) (pops .first)
 
-      left-tree : treeOf (s .edges) ys ≡ popped t k
+      left-tree : treeOf (s .edges) us ≡ popped t k
       left-tree = pops .tree ∙ ap (λ (x : Tree). popped x k) (tree-lent (g .ready))
 
-      taken : Holds s words mid (popped t k)
-      taken = put-holds (g .ready) ys same (pops .formed) left-tree
+      stored-is : stored ≡ putMid (s .at) (s .end - s .at) words us
+      stored-is =
+          ap (putMid (s .at) (s .end - s .at) mid) (put ∙ ap (λ (x : List ℕ). set x 2 m) (lent-again (g .ready) ys same))
+          ∙ put-again (g .ready) ys same us
 
-      still : domainAt s mid ≡ d
+      taken : Holds s words stored (popped t k)
+      taken = subst (λ (x : List ℕ). Holds s words x (popped t k)) (sym stored-is) (put-holds (g .ready) us (length-set ys 2 m ∙ same) (pops .formed) left-tree)
+
+      still : domainAt s stored ≡ d
       still = domain-after (g .ready) taken ∙ domain-after first (g .holds)
 
       in-nodes : k < length (t .nodes)
       unfolding popped
-      in-nodes = omega (arith, pops .node, tree-nodes (length ys - closedWordsAt (s .edges)) (s .edges) ys, ap (λ (x : Tree). length (x .nodes)) left-tree)
+      in-nodes = omega (arith, pops .node, tree-nodes (length us - closedWordsAt (s .edges)) (s .edges) us, ap (λ (x : Tree). length (x .nodes)) left-tree)
 
-      pub can-visit-first : CanVisit s mid k
+      pub can-visit-first : CanVisit s stored k
       can-visit-first = can-visit t k (ready-after (g .ready) taken) (taken .tree) (subst (λ (x : Domain). Sound x t) (sym still) (g .sound)) in-nodes
 
-      module _ {after : List ℕ} {v : Next} (w : Visits s mid after k gs b v) where
+      module _ {after : List ℕ} {v : Next} (w : Visits s stored after k gs b v) where
         visited : Holds s ws after (stepped d gs b t tickets k .tree)
         visited = rw (taken .tree, still) at (holds-trans (g .holds) (holds-trans taken (w .holds)))
 

@@ -15,7 +15,7 @@ use Rattle.layout.proofs.Edges.{edge-count-in, vertex-count-in}
 use Rattle.layout.proofs.Places.{word-behind}
 use Rattle.layout.proofs.Trees.{tree-nodes}
 use Rattle.edges.specs.Edges.{nextAt}
-use Rattle.edges.specs.declared.NextEdge.{NextEdge}
+use Rattle.edges.specs.declared.Placed.{Placed}
 use Rattle.edges.specs.declared.NextEdge.the-variants.{Edge, End}
 use Rattle.edges.proofs.Found.{Found, edge-found, end-found}
 use Rattle.grow.specs.declared.Slot.{Slot}
@@ -91,15 +91,18 @@ module _ {s : Slot} {ws left : List ℕ} {n v k first last place : ℕ} (i : Pus
   last-fits : last ≤ s .edges
   last-fits = omega (arith, i .starts, i .ends, places-fit d v vertex-in (i .can .ready .held .accepted), edge-count-in (s .vertices) (s .edges) ws)
 
-  module _ {r : NextEdge} (said : r ≡ nextAt ns place last) where
-    pub pushing-end : r ≡ End → Holds s ws left (pushAll d n k (treeAt s ws) (choices d v))
+  module _ {r : Placed} (said : r ≡ nextAt ns place last) where
+    pub pushing-end : r .edge ≡ End → Holds s ws left (pushAll d n k (treeAt s ws) (choices d v))
     pushing-end is =
         let stop : last ≤ place = end-found ns place last said (omega (arith, numbers-count, last-fits)) is in
         subst (λ (cs : List ℕ). Holds s ws left (pushAll d n k (treeAt s ws) cs))
         (take-all (place - first) (choices d v) (omega (arith, i .ends, i .within)))
         (i .holds)
 
-    module _ {e after : ℕ} (is : r ≡ Edge e after) where
+    module _ {e : ℕ} (is : r .edge ≡ Edge e) where
+      abbrev after : ℕ
+      after = r .place
+
       found : Found ns place last e after
       found = edge-found ns place last said is
 

@@ -1,8 +1,8 @@
 -- The words of a slot: what they are after a part was lent and has come back, and that the graph's words stay.
 -- Assumes nothing.
-use mathlib.Core.Path.{_≡_, refl, sym, ap, subst, _∙_}
+use mathlib.Core.Path.{_≡_, refl, sym, ap, ap₂, subst, _∙_}
 use mathlib.Core.Logic.{inl, inr, _≢_}
-use mathlib.Core.List.{List}
+use mathlib.Core.List.{List, _++_}
 use Prim.Native.Nat.{ℕ, _+_, _-_, _<_, _≤_}
 use native.Mathlib.Omega.{arith}
 use lib.ListN.{length, getD, drop}
@@ -12,7 +12,7 @@ use Rattle.model.specs.Tree.{Tree}
 use Rattle.layout.specs.Layout.{slotsAt, slotAt, treeWords}
 use Rattle.layout.specs.Read.{treeIn}
 use Rattle.layout.proofs.Places.{part-length}
-use Rattle.graph.proofs.Parts.{mid-at, mid-put, put-length}
+use Rattle.graph.proofs.Parts.{mid-at, put-mid, mid-put, put-length}
 use Rattle.tree.specs.Tree.{Formed, treeOf}
 use Rattle.tree.proofs.Same.{tree-of}
 use Rattle.sound.proofs.Held.{domain-same, held-same}
@@ -49,31 +49,44 @@ module _ (l ys : List ℕ) (a e : ℕ) (ae : a ≤ e) (el : e ≤ length l) (n :
           let at : j ≡ e + (j - e) = omega arith in
           ap (λ (i : ℕ). getD x i 0) at ∙ sym (getD-drop e x (j - e) 0)
 
-pub put-holds : {s : Slot} {ws : List ℕ} {u : Tree} → Ready s ws → (ys : List ℕ) → length ys ≡ length (midOf (s .at) (s .end - s .at) ws) → Formed (s .edges) ys → treeOf (s .edges) ys ≡ u
-    → Holds s ws (putMid (s .at) (s .end - s .at) ws ys) u
-put-holds {s} {ws} {u} r ys same formed tree = record {
-  outside = record {
-    len = put-length ws ys (s .at) (s .end) ae (r .fits) n;
-    word = λ j h. elim h [
-      | inl b ↦ put-below ws ys (s .at) (s .end) ae (r .fits) n j (omega (arith, r .slot .at))
-      | inr b ↦ put-above ws ys (s .at) (s .end) ae (r .fits) n j (omega (arith, r .slot .end))
-    ];
-  };
-  formed = subst (Formed (s .edges)) (sym words) formed;
-  tree = ap (treeIn (s .vertices) (s .edges)) words ∙ sym (tree-of (s .vertices) (s .edges) ys size) ∙ tree;
-}
-  where
-    ae : s .at ≤ s .end
-    ae = omega (arith, r .slot .at, r .slot .end)
+module _ {s : Slot} {ws : List ℕ} (r : Ready s ws) (ys : List ℕ) (same : length ys ≡ length (midOf (s .at) (s .end - s .at) ws)) where
+  -- the words with the part that came back
+  abbrev back : List ℕ
+  back = putMid (s .at) (s .end - s .at) ws ys
 
-    size : length ys ≡ treeWords (s .vertices) (s .edges)
-    size = same ∙ ap length (mid-slot (r .slot) ws) ∙ slot-length r
+  ae : s .at ≤ s .end
+  ae = omega (arith, r .slot .at, r .slot .end)
 
-    n : length ys ≡ s .end - s .at
-    n = omega (arith, size, r .slot .at, r .slot .end)
+  pub part-size : length ys ≡ treeWords (s .vertices) (s .edges)
+  part-size = same ∙ ap length (mid-slot (r .slot) ws) ∙ slot-length r
 
-    words : wordsIn s (putMid (s .at) (s .end - s .at) ws ys) ≡ ys
-    words = sym (mid-slot (r .slot) (putMid (s .at) (s .end - s .at) ws ys)) ∙ mid-put ws ys (s .at) (s .end) ae (r .fits) n
+  n : length ys ≡ s .end - s .at
+  n = omega (arith, part-size, r .slot .at, r .slot .end)
+
+  pub lent-again : midOf (s .at) (s .end - s .at) back ≡ ys
+  lent-again = mid-put ws ys (s .at) (s .end) ae (r .fits) n
+
+  -- another part in its place
+  pub put-again : (zs : List ℕ) → putMid (s .at) (s .end - s .at) back zs ≡ putMid (s .at) (s .end - s .at) ws zs
+  put-again zs =
+      put-mid back zs (s .at) (s .end) ae
+      ∙ ap₂ (λ (x y : List ℕ). x ++ (zs ++ y)) (take-put (s .at) (s .end - s .at) ws ys (omega (arith, ae, r .fits))) (drop-put (s .at) (s .end) ws ys ae (r .fits) n)
+      ∙ sym (put-mid ws zs (s .at) (s .end) ae)
+
+  pub put-holds : {u : Tree} → Formed (s .edges) ys → treeOf (s .edges) ys ≡ u → Holds s ws back u
+  put-holds formed tree =
+      let words : wordsIn s back ≡ ys = sym (mid-slot (r .slot) back) ∙ lent-again in
+      record {
+        outside = record {
+          len = put-length ws ys (s .at) (s .end) ae (r .fits) n;
+          word = λ j h. elim h [
+            | inl b ↦ put-below ws ys (s .at) (s .end) ae (r .fits) n j (omega (arith, r .slot .at))
+            | inr b ↦ put-above ws ys (s .at) (s .end) ae (r .fits) n j (omega (arith, r .slot .end))
+          ];
+        };
+        formed = subst (Formed (s .edges)) (sym words) formed;
+        tree = ap (treeIn (s .vertices) (s .edges)) words ∙ sym (tree-of (s .vertices) (s .edges) ys part-size) ∙ tree;
+      }
 
 -- ---- one change after the other
 

@@ -49,17 +49,17 @@ pub fn grow(words: &mut [u32], slot: usize, goals: &[u32], bound: CostBound) -> 
     ensures { λ r. ⌜ Grew (now (words .entry)) slot (now (goals .entry)) bound r (now (words .exit)) ⌝ }
 {
     let s = slot_of(words, slot);
-    let at = s.at;
-    let end = s.end;
+    let Slot { at, end, .. } = s;
     let mut left = ITERATIONS_PER_STEP;
     let mut tickets: usize = 0;
     while 0 < left {
-        let Popped::Ticket(node, _) = tree::pop(&mut words[at..end], s.edges) else {
+        let Popped::Ticket(node, queued) = tree::pop(&mut words[at..end], s.edges) else {
             return Growth {
                 tickets,
                 solution: Solution::Unsolved,
             };
         };
+        tree::set_queued(&mut words[at..end], queued);
         left -= 1;
         tickets += 1;
         match visit(words, s, node, goals, bound) {
@@ -105,8 +105,7 @@ fn visit(words: &mut [u32], s: Slot, node: u32, goals: &[u32], bound: CostBound)
     requires { ⌜ CanVisit s (now words) node ⌝ }
     ensures { λ r. ⌜ Visits s (now (words .entry)) (now (words .exit)) node (now (goals .entry)) bound r ⌝ }
 {
-    let at = s.at;
-    let end = s.end;
+    let Slot { at, end, .. } = s;
     let vertex = layout::node_word(&words[at..end], wide(node), layout::NODE_VERTEX);
     let cost = layout::node_word(&words[at..end], wide(node), layout::NODE_COST);
     match close(&mut words[at..end], s.edges, wide(vertex), node) {
@@ -129,12 +128,13 @@ fn push_choices(words: &mut [u32], s: Slot, node: u32, vertex: u32, cost: u32)
     let mut place = layout::first_place(words, s.vertices, s.edges, wide(vertex));
     let end = layout::first_place(words, s.vertices, s.edges, wide(vertex) + 1);
     loop {
-        let NextEdge::Edge { edge, place: after } = next_edge(&words[numbers..slots], place, end)
-        else {
+        let next = next_edge(&words[numbers..slots], place, end);
+        let found = next.edge;
+        let NextEdge::Edge(edge) = found else {
             return;
         };
         push_choice(words, s, node, cost, edge);
-        place = after;
+        place = next.place;
     }
 }
 
@@ -150,8 +150,7 @@ fn push_choice(words: &mut [u32], s: Slot, node: u32, cost: u32, edge: u32)
         parent: node,
         edge,
     };
-    let at = s.at;
-    let end = s.end;
+    let Slot { at, end, .. } = s;
     tree::push_node(&mut words[at..end], s.edges, child);
 }
 

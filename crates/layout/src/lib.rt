@@ -1,7 +1,7 @@
 // Where each word of a cache stands. The places are defined once, in specs/Layout.antt; here is one function for each
 // area's start and one for each kind of word.
 ghost use mathlib.Core.Path.{_≡_};
-ghost use Prim.Native.Nat.{_+_, _*_, _<_, _≤_};
+ghost use Prim.Native.Nat.{_+_, _*_, _^_, _<_, _≤_};
 ghost use lib.ListN.{length, getD};
 ghost use Rattle.model.specs.Limits.{vertexLimit, edgeLimit, slotLimit};
 ghost use Rattle.layout.specs.Layout.{headerWords, initialAt, edgesAt, edgeAt, placesAt, numbersAt, slotsAt, nodeAt, queueAt, closedAt, treeWords, slotAt, needed, Sized, EdgeWord, NodeWord};
@@ -84,11 +84,18 @@ pub fn slots_at(vertices: usize, edges: usize) -> usize
 // Within a tree's words: the nodes, the queue and the closed words.
 pub const NODES_AT: usize = 3;
 
+pub fn node_at(node: usize) -> usize
+    requires { ⌜ nodeAt node < 2 ^ 64 ⌝ }
+    ensures { λ r. ⌜ r ≡ nodeAt node ⌝ }
+{
+    NODES_AT + 4 * node
+}
+
 pub fn queue_at(edges: usize) -> usize
     requires { ⌜ edges ≤ edgeLimit ⌝ }
     ensures { λ r. ⌜ r ≡ queueAt edges ⌝ }
 {
-    NODES_AT + 4 * (1 + edges)
+    node_at(1 + edges)
 }
 
 pub fn closed_at(edges: usize) -> usize
@@ -148,7 +155,7 @@ pub fn node_word(tree: &[u32], node: usize, place: usize) -> u32
     requires { ⌜ NodeWord (length (now tree)) node place ⌝ }
     ensures { λ r. ⌜ r ≡ getD (now (tree .entry)) (nodeAt node + place) 0 ⌝ }
 {
-    tree[NODES_AT + 4 * node + place]
+    tree[node_at(node) + place]
 }
 
 // Where the edges of a vertex begin among the edge numbers; those of the last vertex end at the place past it.

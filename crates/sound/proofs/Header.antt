@@ -148,18 +148,18 @@ module _ (ws : List ℕ) (i : ℕ) where
       ∙ sym (and-assoc (eqb k 0) (eqb (getD ws i 0) 0) (zerosb (drop (suc i) ws)))
       ∙ rw (← or-zeros, add-one)
 
--- the unused nodes, and the unused queue words: n nodes and k queue words are in use
-module _ (l : ℕ) (t : List ℕ) {n q : ℕ} (nodes : n ≡ getD t 1 0) (queue : q ≡ queueAt l) where
+-- the unused nodes, from place n on, and the unused queue words, of which k are in use
+module _ (l : ℕ) (t : List ℕ) {n q : ℕ} (nodes : n ≡ nodeAt (getD t 1 0)) (queue : q ≡ queueAt l) where
   abbrev nodesb : Bool
   nodesb = zerosb (part (nodeAt (getD t 1 0)) (queueAt l - nodeAt (getD t 1 0)) t)
 
-  same-nodes : zerosb (part (nodeAt n) (q - nodeAt n) t) ≡ nodesb
-  same-nodes = ap₂ (λ (a b : ℕ). zerosb (part (nodeAt a) (b - nodeAt a) t)) nodes queue
+  same-nodes : zerosb (part n (q - n) t) ≡ nodesb
+  same-nodes = ap₂ (λ (a b : ℕ). zerosb (part a (b - a) t)) nodes queue
 
-  pub spare-fails : zerosb (part (nodeAt n) (q - nodeAt n) t) ≡ false → false ≡ allb (spareTests l t)
+  pub spare-fails : zerosb (part n (q - n) t) ≡ false → false ≡ allb (spareTests l t)
   spare-fails z = sym (all-fails (spareTests l t) 0 (sym same-nodes ∙ z))
 
-  pub spare-last : {k c : ℕ} → k ≡ getD t 2 0 → c ≡ closedAt l → zerosb (part (nodeAt n) (q - nodeAt n) t) ≡ true
+  pub spare-last : {k c : ℕ} → k ≡ getD t 2 0 → c ≡ closedAt l → zerosb (part n (q - n) t) ≡ true
       → zerosb (part (q + k) (c - (q + k)) t) ≡ allb (spareTests l t)
   spare-last ek ec z =
       (λ i. zerosb (part (queue i + ek i) (ec i - (queue i + ek i)) t)) ∙ read-last {cs = spareTests l t} refl 1 refl (sym same-nodes ∙ z)

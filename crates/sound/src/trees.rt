@@ -346,7 +346,7 @@ fn spare_is_zero(tree: &[u32], edges: usize) -> bool
     requires { ⌜ Areas edges (now tree) ⌝ }
     ensures { λ r. ⌜ r ≡ allb (spareTests edges (now (tree .entry))) ⌝ }
 {
-    let nodes = layout::NODES_AT + 4 * wide(tree[layout::NODES]);
+    let nodes = layout::node_at(wide(tree[layout::NODES]));
     let queue = layout::queue_at(edges);
     if !is_zero(&tree[nodes..queue]) {
         return false;

@@ -14,7 +14,7 @@ use Rattle.layout.specs.Layout.{nodesAt, queueAt, closedAt}
 use Rattle.layout.specs.Read.{nodesIn, treeIn}
 use Rattle.queue.specs.declared.Popped.{Popped}
 use Rattle.queue.specs.declared.Popped.the-variants.{Ticket, Empty}
-use Rattle.queue.specs.Queue.{evaluationIn, key, rank, one, times, CanPop, Taken, PoppedIs}
+use Rattle.queue.specs.Queue.{evaluationIn, key, rank, one, times, CanPop, Taken, Takes, PoppedIs}
 use Rattle.queue.proofs.Times.{one-same, times-place, place-times}
 use Rattle.tree.specs.Tree.{treeOf, Formed, Pops, PopIs}
 use Rattle.tree.proofs.Same.{nodes-same, closed-same}
@@ -128,5 +128,5 @@ pub can-pop : {l q : ℕ} {t : List ℕ} → Formed l t → q ≡ queueAt l → 
 can-pop f e = rw e (formed-queue f)
 
 pub pop-is : (l q : ℕ) (s t : List ℕ) (r : Popped) → Formed l s → q ≡ queueAt l → PoppedIs s t q r → PopIs l s t r
-pop-is l q s t (Ticket k m) f e p = let x : Taken s t (queueAt l) k m = rw e at p in taken-pops f x
+pop-is l q s t (Ticket k m) f e p = let x : Takes s t (queueAt l) k m = rw e at p in (x .unstored, taken-pops f (x .taken))
 pop-is l q s t Empty f e p = (least-none l s f (p .0), p .1)

@@ -4,7 +4,7 @@ use mathlib.Core.Path.{_≡_}
 use mathlib.Core.Option.{none, some}
 use mathlib.Core.List.{List}
 use Prim.Native.Nat.{ℕ, zero, suc, _+_, _-_, _<_, _≤_}
-use lib.ListN.{length, getD}
+use lib.ListN.{length, getD, set}
 use Rattle.model.specs.Limits.{vertexLimit, edgeLimit}
 use Rattle.model.specs.declared.Solution.{Solution}
 use Rattle.model.specs.declared.Solution.the-variants.{Unsolved, At}
@@ -58,8 +58,9 @@ pub record Pops (l : ℕ) (s t : List ℕ) (k m : ℕ) : Type 0 where
   pub node : k < getD t 1 0
   pub left : getD t 2 0 ≡ m
 
+-- the length m is handed back, and not stored yet
 abbrev pub PopIs : ℕ → List ℕ → List ℕ → Popped → Type 0
-PopIs l s t (Ticket k m) = Pops l s t k m
+PopIs l s t (Ticket k m) = (getD t 2 0 ≡ getD s 2 0) × Pops l s (set t 2 m) k m
 PopIs l s t Empty = (least (treeOf l s .nodes) (treeOf l s .waiting) ≡ none) × (t ≡ s)
 
 -- ---- the closed set

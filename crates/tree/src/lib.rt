@@ -7,8 +7,8 @@ use layout::wide;
 use queue::Popped;
 ghost use mathlib.Core.Path.{_≡_};
 ghost use mathlib.Core.List.{_∷_, []};
-ghost use Prim.Native.Nat.{_+_, _≤_};
-ghost use lib.ListN.{length};
+ghost use Prim.Native.Nat.{_+_, _<_, _≤_};
+ghost use lib.ListN.{length, set};
 ghost use lib.Seq.{sets};
 ghost use Rattle.model.specs.Tree.{appended, pushNode};
 ghost use Rattle.layout.specs.Layout.{nodeAt};
@@ -54,17 +54,25 @@ pub fn put_node(tree: &mut [u32], number: usize, node: Node)
     requires { ⌜ nodeAt number + 4 ≤ length (now tree) ⌝ }
     ensures { λ _. ⌜ now (tree .exit) ≡ sets (now (tree .entry)) (nodeAt number) (node .vertex ∷ node .cost ∷ node .parent ∷ node .edge ∷ []) ⌝ }
 {
-    let at = layout::NODES_AT + 4 * number;
+    let at = layout::node_at(number);
     tree[at] = node.vertex;
     tree[at + 1] = node.cost;
     tree[at + 2] = node.parent;
     tree[at + 3] = node.edge;
 }
 
-// Takes the first ticket from the queue.
+// Takes the first ticket from the queue; the length that the queue then has is handed back, for `set_queued`.
 pub fn pop(tree: &mut [u32], edges: usize) -> Popped
     requires { ⌜ Formed edges (now tree) ⌝ }
     ensures { λ r. ⌜ PopIs edges (now (tree .entry)) (now (tree .exit)) r ⌝ }
 {
     queue::pop(tree, layout::queue_at(edges))
+}
+
+// Stores the length of the queue.
+pub fn set_queued(tree: &mut [u32], queued: u32)
+    requires { ⌜ 2 < length (now tree) ⌝ }
+    ensures { λ _. ⌜ now (tree .exit) ≡ set (now (tree .entry)) 2 queued ⌝ }
+{
+    tree[layout::QUEUED] = queued;
 }

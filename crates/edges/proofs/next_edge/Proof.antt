@@ -1,9 +1,11 @@
 -- `edges::next_edge` meets its contract: a walk of its MIR, by hand. The cursor that `edges_from` returns is held in a local and passed to
--- `next`. All that the proof knows of the two is that each meets its contract.
--- The machine value that `edges_from` returns is stored and passed on as it is. In a local of a body MIR erases the lifetime of the struct's
--- type, so the value is shown to have the type at `erased`: what the struct owns does not say the lifetime's name.
+-- `next`; of what that hands back, the edge and the moved cursor's place are the answer. All that the proof knows of the two is that each
+-- meets its contract.
+-- The machine value that `edges_from` returns is stored and passed on as it is; the one that `next` returns is written out, as its fields
+-- are read. In a local of a body MIR erases the lifetime of the struct's type, so the value is shown to have the type at `erased`: what the
+-- struct owns does not say the lifetime's name. The answer is plain: what it owns is had for nothing.
 -- Assumes nothing.
-use mathlib.Core.Path.{_≡_, refl, _∙_}
+use mathlib.Core.Path.{_≡_, refl, ap, _∙_}
 use Prim.Native.Nat.{ℕ, _<_, _^_}
 use mathlib.Core.List.{List, [], _∷_}
 use lib.ListN.{length}
@@ -20,7 +22,8 @@ use contract.Lifetimes.{Lfts}
 use contract.Monad.{Fun, fact}
 use contract.Running.{givenOf, tables, tablesOf}
 use types.Kit.{Given, ‵, raw, _⊛_, ⋆, some, later, _$_, _∵_, !, qed, by, move, use1, use2, split, join, pick, fsplit, fjoin, suffices, frame, await, done}
-use types.Run.{look, init, forget, stop, from, load, and-then, no-more, land, returns, enter, alloc1, alloc0, params1, pass1, pass0, free1, free0}
+use types.Part.{whole, sub, look-in, agg}
+use types.Run.{look, init, forget, stop, fld, from, load, of-opd, and-then, no-more, assigns, land, returns, enter, alloc1, alloc0, params1, pass1, pass0, free1, free0}
 use sound.WpLaws.{FmC, fmOf, WpFn-mono}
 use denote.RattleType.{RattleType, owns}
 use denote.Laws.{Is, shows}
@@ -29,7 +32,7 @@ use denote.Builtin.{u32, usize}
 use denote.Ref.{RefT, NamedLft, now}
 use denote.Signature.{plain, namedLft}
 use denote.Slice.{sliceVal, ShrSlice, slice-vals, shr-slice-tells, shr-slice-lawful, shr-slice-copy}
-use denote.Steps.{owned, peeks, heard, nothing}
+use denote.Steps.{only, owned, peeks, facts, heard, nothing}
 use denote.Enum.Laws as EL
 use denote.Struct.Laws as LL
 use denote.Triple.Statement.{Contract, Triple}
@@ -40,13 +43,19 @@ use denote.Triple.Table.{entered, cited}
 use denote.Triple.Walked.{says, Stays, stay-none, stay-none-slice, walkOf, goes-none, goes-none-slice, Walks, ends-at, walked, walk-meets}
 use denote.Exit.{yes}
 use denote.Triple.Clauses.{ensured, lasts}
-use Rattle.edges.specs.Edges.{nextAt}
+use Rattle.edges.specs.Edges.{nextAt, Advances}
 use Rattle.edges.specs.declared.SimpleGraphEdges.{SimpleGraphEdges}
-use Rattle.edges.specs.declared.NextEdge.{NextEdge}
+use Rattle.edges.specs.declared.Placed.{Placed}
+use Rattle.edges.specs.declared.Walked.{Walked}
 use Rattle.edges.proofs.SimpleGraphEdges as T
 use Rattle.edges.proofs.SimpleGraphEdges.Laws as T′
 use Rattle.edges.proofs.NextEdge as S
 use Rattle.edges.proofs.NextEdge.Laws as S′
+use Rattle.edges.proofs.Placed as P
+use Rattle.edges.proofs.Placed.Laws as P′
+use Rattle.edges.proofs.Walked as R
+use Rattle.edges.proofs.Walked.Laws as R′
+use Rattle.edges.proofs.Spelt.{spelt-local}
 use Rattle.edges.proofs.edges_from as edges-from
 use Rattle.edges.proofs.edges_from.Symbol as edges-from-def
 use Rattle.edges.proofs.edges_from.Symbol.{name as #edges·edges-from}
@@ -81,10 +90,13 @@ module _ {M : Type 1} (𝓤 : URA M) (H : Heap 𝓤) (A : Atoms 𝓤) (W : Given
   abbrev v : Val
   v = sliceVal (s .ptr) (length (s .now))
 
-  abbrev found : NextEdge
+  abbrev found : Placed
   found = nextAt (now s) p e
 
-  -- the struct's type as a local of a body has it
+  abbrev α : NamedLft
+  α = namedLft 1 0 tt (κ, tt)
+
+  -- the lifetime as a local of a body has it
   abbrev αᵉ : NamedLft
   αᵉ = record { mir = erased; lft = κ }
 
@@ -134,20 +146,28 @@ module _ {M : Type 1} (𝓤 : URA M) (H : Heap 𝓤) (A : Atoms 𝓤) (W : Given
       qed W (‵ (B (κ, tt) .own r (u ∷ [])) ∷ (‵ (flft κ q) ⊛ ‵ ftrue) ∷ []) ∵
       nothing ! $ move ! (1 ∷ 0 ∷ []) $ fjoin ! $ move ! (1 ∷ 0 ∷ []) $ join ! $ frame ! $ done !
 
-  abbrev Says : SimpleGraphEdges → NextEdge → Type 0
-  Says r t = t ≡ nextAt (now (r .numbers)) (r .place) (r .end)
+  next-said : (r : SimpleGraphEdges) (t : Walked)
+      → ent 𝓤 (ensured 𝓤 H A next.ended (next.clauses 𝓤 H A mem run) (κ, tt) (r, tt) tt t) (fact 𝓤 (Advances r t))
+  next-said r t = exE 𝓤 _ (λ ws. snd∗ 𝓤 (sem 𝓤 H A (lasts next.ended (κ, tt) (r, tt) ws)) (fact 𝓤 (Advances r t)))
 
-  next-said : (r : SimpleGraphEdges) (t : NextEdge)
-      → ent 𝓤 (ensured 𝓤 H A next.ended (next.clauses 𝓤 H A mem run) (κ, tt) (r, tt) tt t) (fact 𝓤 (Says r t))
-  next-said r t = exE 𝓤 _ (λ ws. snd∗ 𝓤 (sem 𝓤 H A (lasts next.ended (κ, tt) (r, tt) ws)) (fact 𝓤 (Says r t)))
+  -- the answer, of what `next` hands back
+  abbrev placed : Walked → Placed
+  placed t = record { edge = t .edge; place = t .moved .place }
 
-  exits : (t : NextEdge) (u : Val) → t ≡ found → ent 𝓤 (⋆ 𝓤 H A (‵ (S.the-row .own t (u ∷ [])) ∷ (‵ (flft κ q) ⊛ ‵ ftrue) ∷ ‵ Own ∷ [])) (Post u)
-  exits t u is =
-      qed W (‵ (S.the-row .own t (u ∷ [])) ∷ (‵ (flft κ q) ⊛ ‵ ftrue) ∷ ‵ Own ∷ []) ∵
+  abbrev answer : Walked → Val
+  answer t = LL.val P.the-type P′.the-laws (placed t)
+
+  is-found : {r : SimpleGraphEdges} {t : Walked} → Made r → Advances r t → placed t ≡ found
+  is-found m n = (λ i. record { edge = n .edge i; place = n .place i }) ∙ (λ i. nextAt (now (m .0 i)) (m .1 .0 i) (m .1 .1 i))
+
+  exits : (t : Walked) → Is P.the-row (placed t) (answer t ∷ []) → placed t ≡ found → ent 𝓤 (⋆ 𝓤 H A ((‵ (flft κ q) ⊛ ‵ ftrue) ∷ ‵ Own ∷ [])) (Post (answer t))
+  exits t plain is =
+      qed W ((‵ (flft κ q) ⊛ ‵ ftrue) ∷ ‵ Own ∷ []) ∵
       suffices ! _ (ends-at 𝓤 H A next-edge.ended stayed (next-edge.clauses 𝓤 H A mem run) W (((κ, tt), (q, tt), tt, args, at), tt)
-      u t (tt, (tt, (tt, tt))) (tt, (tt, (tt, tt)))) $ says ! is $ move ! (1 ∷ []) $ frame ! $
+      (answer t) (placed t) (tt, (tt, (tt, tt))) (tt, (tt, (tt, tt)))) $ says ! is $ frame ! $
       nothing ! $ owned ! usize (Is usize) (uint-makes 𝓤 H A W w64) e _ (refl, e-fits) $ fjoin ! $
-      owned ! usize (Is usize) (uint-makes 𝓤 H A W w64) p _ (refl, p-fits) $ fjoin ! $ move ! (2 ∷ 0 ∷ []) $ fjoin ! $ frame ! $ done !
+      owned ! usize (Is usize) (uint-makes 𝓤 H A W w64) p _ (refl, p-fits) $ fjoin ! $ move ! (1 ∷ 0 ∷ []) $ fjoin ! $ frame ! $
+      owned ! P.the-row (Is P.the-row) (LL.makes P.the-type P′.the-plain 𝓤 H A) (placed t) _ plain $ done !
 
   module _ (C : Calls 𝓤 H) (Λ : Loops 𝓤 H) (fm : FmC 𝓤 H (W .laws) C)
       (known-from : Triple 𝓤 (C #edges·edges-from) (From 𝓤 H A mem run)) (known-next : Triple 𝓤 (C #edges·next) (Next 𝓤 H A mem run)) where
@@ -155,30 +175,40 @@ module _ {M : Type 1} (𝓤 : URA M) (H : Heap 𝓤) (A : Atoms 𝓤) (W : Given
         → ent 𝓤 (onEntry 𝓤 H A next-edge.signature (κ, tt) (q, tt) args at) (WpFn 𝓤 H C Λ code.function (v ∷ vint w64 p ∷ vint w64 e ∷ []) Post)
     walk slice =
         qed W (raw (onEntry 𝓤 H A next-edge.signature (κ, tt) (q, tt) args at) ∷ []) ∵ enter ! C Λ code.function (v ∷ vint w64 p ∷ vint w64 e ∷ []) _ $
-        alloc1 ! (λ l₀. alloc1 ! (λ l₁. alloc1 ! (λ l₂. alloc1 ! (λ l₃. alloc1 ! (λ l₄. alloc0 ! $ params1 ! $
-        pass1 ! (init ! 6 refl (shr-slice-lawful 𝓤 H A W (named 0) κ u32 .typed s (v ∷ []) slice .0)) $
-        pass1 ! (init ! 4 refl (tt, record { fits = p-fits })) $ pass1 ! (init ! 2 refl (tt, record { fits = e-fits })) $ pass0 ! $
-        -- [room for _4; …; _3; …; _2; …; _1; …; room for _0; …; what is had on entry]
-        move ! (10 ∷ []) $ use1 W (raw (From 𝓤 H A mem run .pre to-from) ⊛ ‵ Own) goes-from $ split ! $
-        calls-at ! fm (From 𝓤 H A mem run) known-from to-from (and-then ! (load ! (from ! (stop !)) (look ! 8 refl))
-        (and-then ! (load ! (from ! (stop !)) (look ! 6 refl)) (and-then ! (load ! (from ! (stop !)) (look ! 4 refl)) (no-more !)))) (λ u.
+        alloc1 ! (λ l₀. alloc1 ! (λ l₁. alloc1 ! (λ l₂. alloc1 ! (λ l₃. alloc1 ! (λ l₄. alloc1 ! (λ l₅. alloc1 ! (λ l₆. alloc1 ! (λ l₇. alloc0 ! $ params1 ! $
+        pass1 ! (init ! 12 refl (shr-slice-lawful 𝓤 H A W (named 0) κ u32 .typed s (v ∷ []) slice .0)) $
+        pass1 ! (init ! 10 refl (tt, record { fits = p-fits })) $ pass1 ! (init ! 8 refl (tt, record { fits = e-fits })) $ pass0 ! $
+        -- [room for _7; …; _6; …; _5; …; _4; …; _3; …; _2; …; _1; …; room for _0; …; what is had on entry]
+        move ! (16 ∷ []) $ use1 W (raw (From 𝓤 H A mem run .pre to-from) ⊛ ‵ Own) goes-from $ split ! $
+        calls-at ! fm (From 𝓤 H A mem run) known-from to-from (and-then ! (load ! (from ! (stop !)) (look ! 14 refl))
+        (and-then ! (load ! (from ! (stop !)) (look ! 12 refl)) (and-then ! (load ! (from ! (stop !)) (look ! 10 refl)) (no-more !)))) (λ u.
         use1 W (later (some (λ (r : SimpleGraphEdges). ((‵ (flft κ q) ⊛ ‵ ftrue) ⊛ ‵ (B (κ, tt) .own r (u ∷ [])))
         ⊛ raw (ensured 𝓤 H A edges-from.ended (edges-from.clauses 𝓤 H A mem run) (κ, tt) args tt r)))) (id⊢ 𝓤 _) $ await ! tt $ pick ! (λ r.
         split ! $ move ! (1 ∷ []) $ use1 W (raw (fact 𝓤 (Made r))) (from-said r) $ heard ! (Made r) (λ m. split ! $ move ! (1 ∷ []) $
-        -- [what the struct owns; the token; what s owns; room for _4; …; _3; …; _2; …; _1; …; room for _0; …]
+        -- [what the cursor owns; the token; what s owns; room for _7; …]
         peeks ! (B (κ, tt)) (Is (B (κ, tt))) (shows 𝓤 H A (B (κ, tt))) r (u ∷ []) (λ is.
-        land ! (from ! (stop !)) (init ! 3 refl (LL.lawful (T.the-type αᵉ) (T′.the-laws αᵉ) 𝓤 H A W .typed r _ is .0)) $
+        land ! (from ! (stop !)) (init ! 7 refl (LL.lawful (T.the-type αᵉ) (T′.the-laws αᵉ) 𝓤 H A W .typed r _ is .0)) $
         use2 W (raw (Next 𝓤 H A mem run .pre (to-next r u))) (goes-next r u) $
-        calls-at ! fm (Next 𝓤 H A mem run) known-next (to-next r u) (and-then ! (load ! (from ! (stop !)) (look ! 2 refl)) (no-more !)) (λ u′.
-        use1 W (later (some (λ (t : NextEdge). ((‵ (flft κ q) ⊛ ‵ ftrue) ⊛ ‵ (S.the-row .own t (u′ ∷ [])))
+        calls-at ! fm (Next 𝓤 H A mem run) known-next (to-next r u) (and-then ! (load ! (from ! (stop !)) (look ! 6 refl)) (no-more !)) (λ u′.
+        use1 W (later (some (λ (t : Walked). ((‵ (flft κ q) ⊛ ‵ ftrue) ⊛ ‵ (R.the-row α .own t (u′ ∷ [])))
         ⊛ raw (ensured 𝓤 H A next.ended (next.clauses 𝓤 H A mem run) (κ, tt) (r, tt) tt t)))) (id⊢ 𝓤 _) $ await ! tt $ pick ! (λ t.
-        split ! $ move ! (1 ∷ []) $ use1 W (raw (fact 𝓤 (Says r t))) (next-said r t) $ heard ! (Says r t) (λ n. split ! $ move ! (1 ∷ []) $
-        -- [the result; the token; what s owns; _4; …; _3; …; _2; …; _1; …; room for _0; …]
-        peeks ! S.the-row (Is S.the-row) (shows 𝓤 H A S.the-row) t (u′ ∷ []) (λ is′.
-        land ! (from ! (stop !)) (init ! 11 refl (EL.lawful S.the-type S′.the-laws 𝓤 H A W tt .typed t _ is′ .0)) $
-        returns ! (look ! 11 refl) $ forget ! 3 refl $ forget ! 5 refl $ forget ! 7 refl $ forget ! 9 refl $ forget ! 11 refl $
-        move ! (11 ∷ 12 ∷ []) $ free1 ! $ move ! (9 ∷ 10 ∷ []) $ free1 ! $ move ! (7 ∷ 8 ∷ []) $ free1 ! $ move ! (5 ∷ 6 ∷ []) $ free1 ! $
-        move ! (3 ∷ 4 ∷ []) $ free1 ! $ free0 ! $ by ! (exits t u′ (n ∙ (λ i. nextAt (now (m .0 i)) (m .1 .0 i) (m .1 .1 i)))))))))))))))))
+        split ! $ move ! (1 ∷ []) $ use1 W (raw (fact 𝓤 (Advances r t))) (next-said r t) $ heard ! (Advances r t) (λ n. split ! $ move ! (1 ∷ []) $
+        facts ! (R.the-row α) (Is (R.the-row α)) (shows 𝓤 H A (R.the-row α)) t (u′ ∷ []) (λ got.
+        let parts = LL.owed (R.the-type α) (R′.the-laws α) t _ got in
+        let plain = LL.owes P.the-type P′.the-laws (placed t) (parts .0, (LL.owed (T.the-type α) (T′.the-laws α) (t .moved) _ (parts .1 .0) .1 .0, tt)) in
+        -- [the token; what s owns; room for _7; …; _6; …; _5; …; room for _4; …; _3; …; _2; …; _1; …; room for _0; …]
+        land ! (from ! (stop !)) (init ! 8 refl (LL.lawful (R.the-type αᵉ) (R′.the-laws αᵉ) 𝓤 H A W .typed t _ got .0)) $
+        spelt-local ! 8 refl (ap only (LL.tells (R.the-type α) (R′.the-laws α) t _ got)) $
+        assigns ! (of-opd ! (load ! (from ! (fld ! refl (stop !))) (look-in ! 8 (sub ! 0 refl (whole !))))) (from ! (stop !))
+        (init ! 4 refl (EL.lawful S.the-type S′.the-laws 𝓤 H A W tt .typed (t .edge) _ (parts .0) .0)) $
+        assigns ! (of-opd ! (load ! (from ! (fld ! {d = 8} refl (fld ! {d = 16} refl (stop !)))) (look-in ! 8 (sub ! 1 {d = 16} refl (sub ! 1 {d = 8} refl (whole !)))))) (from ! (stop !))
+        (init ! 2 refl (tt, record { fits = plain .1 .1 .1 .0 .1 })) $
+        assigns ! (agg ! (and-then ! (load ! (from ! (stop !)) (look ! 4 refl)) (and-then ! (load ! (from ! (stop !)) (look ! 2 refl)) (no-more !)))) (from ! (stop !))
+        (init ! 16 refl (LL.lawful P.the-type P′.the-laws 𝓤 H A W .typed (placed t) _ plain .0)) $
+        returns ! (look ! 16 refl) $ forget ! 2 refl $ forget ! 4 refl $ forget ! 6 refl $ forget ! 8 refl $ forget ! 10 refl $ forget ! 12 refl $
+        forget ! 14 refl $ forget ! 16 refl $ move ! (16 ∷ 17 ∷ []) $ free1 ! $ move ! (14 ∷ 15 ∷ []) $ free1 ! $ move ! (12 ∷ 13 ∷ []) $ free1 ! $
+        move ! (10 ∷ 11 ∷ []) $ free1 ! $ move ! (8 ∷ 9 ∷ []) $ free1 ! $ move ! (6 ∷ 7 ∷ []) $ free1 ! $ move ! (4 ∷ 5 ∷ []) $ free1 ! $
+        move ! (2 ∷ 3 ∷ []) $ free1 ! $ free0 ! $ by ! (exits t plain (is-found m n))))))))))))))))))
 
 module _ {M : Type 1} (𝓤 : URA M) (H : Heap 𝓤) (A : Atoms 𝓤) (W : Given 𝓤 H A) (mem : Memory → SProp 𝓤) (run : Routine → Fun 𝓤) where
   next-edge-walks : (C : Calls 𝓤 H) (Λ : Loops 𝓤 H) → FmC 𝓤 H (W .laws) C

@@ -1,7 +1,7 @@
 -- `grow` meets its contract.
 -- Assumes nothing.
 use borrow.Author.Needs.{needs}
-use Rattle.grow.proofs.Growing.{Growing, growing-none, growing-all, can-take, growing-dry, can-visit-first, growing-on, growing-found, growing-over}
+use Rattle.grow.proofs.Growing.{Growing, growing-none, growing-all, can-take, growing-dry, can-store, can-visit-first, growing-on, growing-found, growing-over}
 use Rattle.grow.proofs.grow.Statement.{statement}
 use Rattle.grow.proofs.grow.Tie as tie
 
@@ -20,17 +20,39 @@ pop-requires c κs = search can-take
 returns : tie.Need-returns Inv-loop μ-loop
 returns c = search growing-dry
 
+set-queued-requires : tie.Need-set-queued-requires Inv-loop μ-loop
+set-queued-requires c κs = search can-store
+
 visit-requires : tie.Need-visit-requires Inv-loop μ-loop
 visit-requires c κs = search can-visit-first
 
+-- the ways back from a node's visit: its ticket was popped, opened, and the length stored
+abbrev at-store : tie.After-visit Inv-loop μ-loop → tie.After-set-queued Inv-loop μ-loop
+at-store v = v .before .before .before .before
+
+abbrev at-node : tie.After-visit Inv-loop μ-loop → tie.After-node Inv-loop μ-loop
+at-node v = at-store v .before .before .before
+
+abbrev at-pop : tie.After-visit Inv-loop μ-loop → tie.After-pop Inv-loop μ-loop
+at-pop v = at-node v .before .before .before .before
+
 loop-again : tie.Need-loop-again Inv-loop μ-loop
-loop-again c = search growing-on
+loop-again c =
+    let v = c .before .before .before .before in
+    growing-on (at-pop v .before .before .before .loop .inv) (at-pop v .before .before .loop-test .taken) _ (at-pop v .pop .kept .0) (at-pop v .pop .ensures) (at-node v .node .given .1)
+    (at-store v .set-queued .ensures) (v .visit .ensures) (c .enum-told2 .given .1)
 
 returns-2 : tie.Need-returns-2 Inv-loop μ-loop
-returns-2 c = search growing-found
+returns-2 c =
+    let v = c .before .before .before .before in
+    growing-found (at-pop v .before .before .before .loop .inv) (at-pop v .before .before .loop-test .taken) _ (at-pop v .pop .kept .0) (at-pop v .pop .ensures) (at-node v .node .given .1)
+    (at-store v .set-queued .ensures) (v .visit .ensures) (c .enum-told3 .given .1)
 
 returns-3 : tie.Need-returns-3 Inv-loop μ-loop
-returns-3 c = search growing-over
+returns-3 c =
+    let v = c .before .before .before .before in
+    growing-over (at-pop v .before .before .before .loop .inv) (at-pop v .before .before .loop-test .taken) _ (at-pop v .pop .kept .0) (at-pop v .pop .ensures) (at-node v .node .given .1)
+    (at-store v .set-queued .ensures) (v .visit .ensures) (c .enum-told4 .given .1)
 
 returns-4 : tie.Need-returns-4 Inv-loop μ-loop
 returns-4 c = search growing-all
@@ -52,6 +74,11 @@ grow-spec =
     (λ c. search needs)
     (λ c. search needs)
     returns
+    (λ c. search needs)
+    (λ c. search needs)
+    (λ c. search needs)
+    (λ c. search needs)
+    set-queued-requires
     (λ c. search needs)
     (λ c. search needs)
     visit-requires

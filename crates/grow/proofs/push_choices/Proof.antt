@@ -34,7 +34,7 @@ push-choice-requires c κs =
     let n = e .before .before in
     let l = n .before .before .before in
     let s = l .before .before .before .before .before .before .before in
-    can-push-next (l .loop .inv) (s .before .numbers-at .ensures) (s .slots-at .ensures) (n .next-edge .ensures) (e .edge .given .1)
+    can-push-next (l .loop .inv) (s .before .numbers-at .ensures) (s .slots-at .ensures) (n .next-edge .ensures) (e .found .given .1)
 
 loop-less : tie.Need-loop-less Inv-loop μ-loop
 loop-less c = search fewer-left

@@ -1,9 +1,12 @@
 -- `tree::put_node` meets its contract.
 -- Assumes nothing.
 use native.Mathlib.Omega.{arith}
+use mathlib.Core.Path.{ap, _∙_}
+use mathlib.Core.List.{[], _∷_}
+use Prim.Native.Nat.{ℕ}
 use borrow.Author.Needs.{needs}
 use lib.ListN.{length-set}
-use Rattle.layout.specs.Layout.{nodeAt}
+use lib.Seq.{sets}
 use Rattle.tree.proofs.Added.{sets-four}
 use Rattle.tree.proofs.put_node.Statement.{statement}
 use Rattle.tree.proofs.put_node.Tie as tie
@@ -19,15 +22,16 @@ slice-write-tree-4 c = simp length-set (omega arith)
 
 returns : tie.Need-returns
 returns c =
-    let x = c .args .node in
-    sets-four (c .args .tree .now) (nodeAt (c .args .number)) (x .vertex) (x .cost) (x .parent) (x .edge)
+    let a = c .before .before .args in
+    let x = a .node in
+    sets-four (a .tree .now) (c .node-at .result) (x .vertex) (x .cost) (x .parent) (x .edge)
+    ∙ ap (λ (i : ℕ). sets (a .tree .now) i (x .vertex ∷ x .cost ∷ x .parent ∷ x .edge ∷ [])) (c .node-at .ensures)
 
 pub put-node-spec : {M : Type 1} → statement M
 put-node-spec =
     tie.close
     (tie.spec
-    (λ c. search needs)
-    (λ c. search needs)
+    (λ c κs. search needs)
     (λ c. search needs)
     (λ c. search needs)
     (λ c. search needs)
