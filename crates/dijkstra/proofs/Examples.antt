@@ -17,7 +17,7 @@ use Rattle.model.specs.declared.Search.{Search}
 use Rattle.model.specs.declared.SearchOpened.{SearchOpened}
 use Rattle.model.specs.Answers.{Reply, answered, refused, Status, waiting, solved, noPath}
 use Rattle.model.specs.Path.{path, words}
-use Rattle.model.specs.Search.{entry, withEntry, withTurn}
+use Rattle.model.specs.Search.{entry, withEntry, withFind, withKnownLen, withExhausted}
 use Rattle.model.specs.Calls.{initialize, step, retrace}
 use Rattle.layout.specs.Read.{readCache}
 use Rattle.layout.specs.Sound.{soundWordsb}
@@ -169,14 +169,12 @@ tickets-invented : (s : Search) (left : List ℕ) → Stepping words0 search0 (r
 tickets-invented s left p = absurd (omega (arith, p .tickets ∙ takes-3))
 
 -- "Closing a motif when it is queued: order 0 would cost 9."
-closed-when-queued : (t : ℕ) (left : List ℕ) → Stepping words0 search0 (record { answer = stepping.Status Incomplete; tickets = t; search = withTurn search0 0 (entry search0 0) (Best 0 2) true }) left → ⊥
+closed-when-queued : (t : ℕ) (left : List ℕ) → Stepping words0 search0 (record { answer = stepping.Status Incomplete; tickets = t; search = withExhausted (withFind search0 0 2 true) true }) left → ⊥
 closed-when-queued t left p = absurd (omega (arith, ap nodeOf (ap (λ (s : Search). s .«best_solution») (p .search) ∙ finds-7)))
 
 -- the search as the step finished it, with the closed count remembered
 abbrev remembered : Search
-remembered =
-    let e = entry finished0 0 in
-    withTurn finished0 0 (record { tree = e .tree; «last_known_closed_len» = Len 1; solution = e .solution }) (finished0 .«best_solution») (finished0 .exhausted)
+remembered = withKnownLen finished0 0 1
 
 -- "Remembering the count after a find by lookup."
 remembered-after-lookup : (t : ℕ) (left : List ℕ)

@@ -1,9 +1,9 @@
--- 01's worked examples, computed: answer, total and moves, waits, tickets and path words of each order. The orders on 01's little graph
--- are made to the reference too.
+-- Orders on small graphs, computed: answer, total and moves, waits, tickets and path words of each. Those of 01's sheet are made to the
+-- reference too. 01's table, from the text to the bytes, is run_sheet's.
 -- Assumes nothing.
 use mathlib.Core.Path.{_≡_, refl}
 use mathlib.Core.Bool.{Bool, true, false}
-use mathlib.Core.List.{List, [], _∷_}
+use mathlib.Core.List.{List, [], _∷_, map}
 use mathlib.Core.Option.{Option, none, some}
 use Prim.Native.Nat.{ℕ, zero, suc, _+_, _-_, _*_}
 use lib.ListN.{length, replicate, take}
@@ -131,30 +131,19 @@ unfoldable pub order4 : Told
 unfolding order fresh
 order4 = order (fresh backward) (0 ∷ []) (2 ∷ [])
 
--- F,0,2
-row0 : row order0 ≡ record { reply = answered (solved 7 2); waits = 2; tickets = 4; path = 0 ∷ 0 ∷ 1 ∷ 1 ∷ 2 ∷ [] }
-unfolding row order0
-row0 = refl
+-- F,0,2; F,0,2; F,1,3; F,2,0; B,0,2
+abbrev pub sheetRows : List Row
+sheetRows =
+    record { reply = answered (solved 7 2); waits = 2; tickets = 4; path = 0 ∷ 0 ∷ 1 ∷ 1 ∷ 2 ∷ [] }
+    ∷ record { reply = answered (solved 7 2); waits = 1; tickets = 0; path = 0 ∷ 0 ∷ 1 ∷ 1 ∷ 2 ∷ [] }
+    ∷ record { reply = answered noPath; waits = 1; tickets = 2; path = [] }
+    ∷ record { reply = answered noPath; waits = 1; tickets = 0; path = [] }
+    ∷ record { reply = answered (solved 7 2); waits = 2; tickets = 4; path = 0 ∷ 0 ∷ 1 ∷ 1 ∷ 2 ∷ [] }
+    ∷ []
 
--- F,0,2
-row1 : row order1 ≡ record { reply = answered (solved 7 2); waits = 1; tickets = 0; path = 0 ∷ 0 ∷ 1 ∷ 1 ∷ 2 ∷ [] }
-unfolding row order1
-row1 = refl
-
--- F,1,3
-row2 : row order2 ≡ record { reply = answered noPath; waits = 1; tickets = 2; path = [] }
-unfolding row order2
-row2 = refl
-
--- F,2,0
-row3 : row order3 ≡ record { reply = answered noPath; waits = 1; tickets = 0; path = [] }
-unfolding row order3
-row3 = refl
-
--- B,0,2
-row4 : row order4 ≡ record { reply = answered (solved 7 2); waits = 2; tickets = 4; path = 0 ∷ 0 ∷ 1 ∷ 1 ∷ 2 ∷ [] }
-unfolding row order4
-row4 = refl
+rows : map row (order0 ∷ order1 ∷ order2 ∷ order3 ∷ order4 ∷ []) ≡ sheetRows
+unfolding row order3 order4
+rows = refl
 
 -- the same sheet made to the reference
 unfoldable pub reference0 : Told
@@ -177,25 +166,9 @@ unfoldable pub reference4 : Told
 unfolding referenceOrder fresh
 reference4 = referenceOrder (fresh backward) (0 ∷ []) (2 ∷ [])
 
-reference-row0 : row reference0 ≡ record { reply = answered (solved 7 2); waits = 2; tickets = 4; path = 0 ∷ 0 ∷ 1 ∷ 1 ∷ 2 ∷ [] }
-unfolding row reference0
-reference-row0 = refl
-
-reference-row1 : row reference1 ≡ record { reply = answered (solved 7 2); waits = 1; tickets = 0; path = 0 ∷ 0 ∷ 1 ∷ 1 ∷ 2 ∷ [] }
-unfolding row reference1
-reference-row1 = refl
-
-reference-row2 : row reference2 ≡ record { reply = answered noPath; waits = 1; tickets = 2; path = [] }
-unfolding row reference2
-reference-row2 = refl
-
-reference-row3 : row reference3 ≡ record { reply = answered noPath; waits = 1; tickets = 0; path = [] }
-unfolding row reference3
-reference-row3 = refl
-
-reference-row4 : row reference4 ≡ record { reply = answered (solved 7 2); waits = 2; tickets = 4; path = 0 ∷ 0 ∷ 1 ∷ 1 ∷ 2 ∷ [] }
-unfolding row reference4
-reference-row4 = refl
+reference-rows : map row (reference0 ∷ reference1 ∷ reference2 ∷ reference3 ∷ reference4 ∷ []) ≡ sheetRows
+unfolding row reference3 reference4
+reference-rows = refl
 
 -- the trees that the sheet leaves, with either
 abbrev pub leftForward : List Tree
@@ -298,81 +271,6 @@ reference-self : row (referenceOrder (fresh forward) (0 ∷ []) (0 ∷ [])) ≡ 
 unfolding row referenceOrder fresh
 reference-self = refl
 
--- B,3,3
-self-backward : row (order (fresh backward) (3 ∷ []) (3 ∷ [])) ≡ record { reply = answered (solved 0 0); waits = 1; tickets = 1; path = 3 ∷ [] }
-unfolding row order fresh
-self-backward = refl
-
--- ---- empty lists
-
--- F,,2
-no-start : row (order (fresh forward) [] (2 ∷ [])) ≡ record { reply = answered noPath; waits = 1; tickets = 0; path = [] }
-unfolding row order fresh
-no-start = refl
-
--- F,0,
-no-goal : row (order (fresh forward) (0 ∷ []) []) ≡ record { reply = answered noPath; waits = 1; tickets = 4; path = [] }
-unfolding row order fresh
-no-goal = refl
-
--- B,,2
-no-start-backward : row (order (fresh backward) [] (2 ∷ [])) ≡ record { reply = answered noPath; waits = 1; tickets = 4; path = [] }
-unfolding row order fresh
-no-start-backward = refl
-
--- B,0,
-no-goal-backward : row (order (fresh backward) (0 ∷ []) []) ≡ record { reply = answered noPath; waits = 1; tickets = 0; path = [] }
-unfolding row order fresh
-no-goal-backward = refl
-
--- ---- chains
-
-abbrev pub edgesFrom : ℕ → ℕ → List Edge
-edgesFrom zero i = []
-edgesFrom (suc n) i = record { from = i; to = suc i; cost = 1 } ∷ edgesFrom n (suc i)
-
--- n vertices, each with an edge to the next
-unfoldable pub chain : ℕ → Graph
-chain n = record { initial = replicate n 0; edges = edgesFrom (n - 1) 0 }
-
-chain-of-10 : row (order (opened forward (chain 10) 16) (0 ∷ []) (9 ∷ [])) ≡ record { reply = answered (solved 9 9); waits = 1; tickets = 10; path = 0 ∷ 0 ∷ 1 ∷ 1 ∷ 2 ∷ 2 ∷ 3 ∷ 3 ∷ 4 ∷ 4 ∷ 5 ∷ 5 ∷ 6 ∷ 6 ∷ 7 ∷ 7 ∷ 8 ∷ 8 ∷ 9 ∷ [] }
-unfolding row order opened chain
-chain-of-10 = refl
-
-chain-of-11 : row (order (opened forward (chain 11) 16) (0 ∷ []) (10 ∷ [])) ≡ record { reply = answered (solved 10 10); waits = 2; tickets = 11; path = 0 ∷ 0 ∷ 1 ∷ 1 ∷ 2 ∷ 2 ∷ 3 ∷ 3 ∷ 4 ∷ 4 ∷ 5 ∷ 5 ∷ 6 ∷ 6 ∷ 7 ∷ 7 ∷ 8 ∷ 8 ∷ 9 ∷ 9 ∷ 10 ∷ [] }
-unfolding row order opened chain
-chain-of-11 = refl
-
-chain-of-10-backward : row (order (opened backward (chain 10) 16) (0 ∷ []) (9 ∷ [])) ≡ record { reply = answered (solved 9 9); waits = 1; tickets = 10; path = 0 ∷ 0 ∷ 1 ∷ 1 ∷ 2 ∷ 2 ∷ 3 ∷ 3 ∷ 4 ∷ 4 ∷ 5 ∷ 5 ∷ 6 ∷ 6 ∷ 7 ∷ 7 ∷ 8 ∷ 8 ∷ 9 ∷ [] }
-unfolding row order opened chain
-chain-of-10-backward = refl
-
--- ---- edges 0 to 1 and back at cost 0; vertex 2 is out of reach
-
-unfoldable pub loop : Graph
-loop = record { initial = 0 ∷ 0 ∷ 0 ∷ []; edges = record { from = 0; to = 1; cost = 0 } ∷ record { from = 1; to = 0; cost = 0 } ∷ [] }
-
-looped : row (order (opened forward loop 16) (0 ∷ []) (2 ∷ [])) ≡ record { reply = answered noPath; waits = 1; tickets = 2; path = [] }
-unfolding row order opened loop
-looped = refl
-
-looped-backward : row (order (opened backward loop 16) (0 ∷ []) (2 ∷ [])) ≡ record { reply = answered noPath; waits = 1; tickets = 1; path = [] }
-unfolding row order opened loop
-looped-backward = refl
-
--- ---- the empty graph and empty lists
-
-abbrev pub nothing : Graph
-nothing = record { initial = []; edges = [] }
-
-empty-forward : row (order (opened forward nothing 16) [] []) ≡ record { reply = answered noPath; waits = 1; tickets = 0; path = [] }
-unfolding row order opened
-empty-forward = refl
-
-empty-backward : row (order (opened backward nothing 16) [] []) ≡ record { reply = answered noPath; waits = 1; tickets = 0; path = [] }
-unfolding row order opened
-empty-backward = refl
-
 -- ---- refused orders leave the cache as it was
 
 -- F,0,4: vertex 4 is none of the four
@@ -424,6 +322,11 @@ fork = record { initial = 0 ∷ absent ∷ absent ∷ []; edges = record { from 
 equal-finds : row (order (opened forward fork 16) (0 ∷ []) (1 ∷ 2 ∷ [])) ≡ record { reply = answered (solved 1 1); waits = 2; tickets = 3; path = 0 ∷ 1 ∷ 2 ∷ [] }
 unfolding row order opened fork
 equal-finds = refl
+
+-- n edges of cost 1, from i on to the next
+abbrev pub edgesFrom : ℕ → ℕ → List Edge
+edgesFrom zero i = []
+edgesFrom (suc n) i = record { from = i; to = suc i; cost = 1 } ∷ edgesFrom n (suc i)
 
 -- from 0 straight to 13 at cost 50 and to 14 at cost 60, from 1 to 13 by twelve edges of cost 1
 unfoldable pub detour : Graph
@@ -479,7 +382,10 @@ queued-above-bound : row (order (dear1 .cache) (1 ∷ []) (5 ∷ [])) ≡ record
 unfolding row dear1
 queued-above-bound = refl
 
--- the wait limit is met: no tree, and one wait (empty-forward)
+-- the wait limit is met: of the empty graph, no tree, and one wait
+abbrev pub nothing : Graph
+nothing = record { initial = []; edges = [] }
+
 limit-met : waitLimit forward nothing [] [] ≡ 1
 unfolding waitLimit
 limit-met = refl

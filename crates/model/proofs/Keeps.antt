@@ -11,19 +11,18 @@ use native.Mathlib.Decide.{decLe, ℕ-discrete}
 use native.Mathlib.Omega.{arith}
 use borrow.Author.Tests.{eqb-true, eqb-false, leb-true, le-leb, eq-eqb}
 use lib.Dec.{eqb}
-use lib.ListN.{length, getD, set, replicate, length-set, length-append, length-replicate, List·getD-append}
+use lib.ListN.{length, set, replicate, length-set, length-append, length-replicate, List·getD-append}
 use lib.Seq.{set-out, getD-append-seam, getD-set-same, getD-set-other}
 use Rattle.model.specs.declared.CostBound.{CostBound}
 use Rattle.model.specs.declared.KnownLen.{KnownLen}
 use Rattle.model.specs.declared.Solution.{Solution}
 use Rattle.model.specs.declared.Solution.the-variants.{Unsolved, At}
-use Rattle.model.specs.declared.TreeMemory.{TreeMemory}
 use Rattle.model.specs.declared.Search.{Search}
 use Rattle.model.specs.Lists.{mem}
 use Rattle.model.specs.Graph.{Domain, Accepted, absent, vertexCount, initialCost}
 use Rattle.model.specs.Tree.{Tree, closedAt, newTree}
 use Rattle.model.specs.Sound.{tree, noTree, Sound, SoundTrees}
-use Rattle.model.specs.Search.{blank, entry, goals, bound, lookup, turn, turnBy, Walk, round, rounds, walk, withExhausted, seek, plant, plantAll, rootsOf, Turn, recordedEntry, recorded}
+use Rattle.model.specs.Search.{entry, goals, bound, lookup, turn, turnBy, Walk, round, rounds, walk, withExhausted, seek, plant, plantAll, rootsOf}
 use Rattle.model.specs.Calls.{Cache, SoundCache, soundCacheb, firstFault, initializeBy, initializeFaults, initialize, stepIf, stepBy, stepFaults, step}
 use Rattle.model.specs.Demands.{Call, initializing, stepping, retracing, after, afterAll}
 use Rattle.model.proofs.Bools.{and-true, true-and}
@@ -88,7 +87,7 @@ pub turn-keeps : (d : Domain) → Accepted (d .graph) → (gs : List ℕ) (b : C
 unfolding turn
 turn-keeps d acc gs b t known ok = go (lookup d t gs known)
   where
-    go : (o : Solution) → Sound d ((turnBy d gs b t known o) .tree) × Later t ((turnBy d gs b t known o) .tree)
+    go : (o : Solution) → Sound d ((turnBy d gs b t o) .tree) × Later t ((turnBy d gs b t o) .tree)
     go Unsolved = let g = growing.grown d acc gs b t ok 10 in (g .sound, g .later)
     go (At n) = (ok, later-refl t)
 
@@ -111,21 +110,6 @@ module _ (d : Domain) (acc : Accepted (d .graph)) where
   pub walk-keeps : (ts : List Tree) (s : Search) → SoundTrees d ts → Keeps d ts ((walk d ts s) .trees)
   unfolding walk
   walk-keeps ts s ok = rounds-keeps (s .«tree_count») 0 (record { trees = ts; search = withExhausted s true; tickets = 0 }) ok
-
--- what is recorded of a turn leaves each entry its slot
-pub slot-kept : (d : Domain) (b : CostBound) (s : Search) (i : ℕ) (u : Turn) (j : ℕ) → (entry (recorded d b s i u) j) .tree ≡ (entry s j) .tree
-slot-kept d b s i u j = elim (ℕ-discrete j i) [
-  | yes z ↦ elim (decLe (suc i) (length (s .trees))) [
-    | yes h ↦ rw z (ap (λ (x : TreeMemory). x .tree) (getD-set-same (s .trees) i (recordedEntry d (entry s i) u) blank h))
-    | no h ↦ ap (λ (l : List TreeMemory). (getD l j blank) .tree) (set-out (s .trees) i (recordedEntry d (entry s i) u) (omega (arith, lt-of-not-le h)))
-  ]
-  | no z ↦ ap (λ (x : TreeMemory). x .tree) (getD-set-other (s .trees) i j (recordedEntry d (entry s i) u) blank z)
-]
-
--- a round changes no count
-pub round-count : (d : Domain) (i : ℕ) (w : Walk) → (round d i w) .search .«tree_count» ≡ w .search .«tree_count»
-unfolding round
-round-count d i w = refl
 
 pub rounds-length : (d : Domain) (k i : ℕ) (w : Walk) → length ((rounds d k i w) .trees) ≡ length (w .trees)
 unfolding rounds round

@@ -13,6 +13,7 @@ pub mod Least
 pub mod Grow
 pub mod Later
 pub mod Room
+pub mod Recorded
 pub mod Turns
 pub mod Faults
 pub mod Keeps

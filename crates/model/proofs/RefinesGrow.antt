@@ -23,6 +23,7 @@ use Rattle.model.proofs.Lists.{Least, least-is}
 use Rattle.model.proofs.Least.{node-inside}
 use Rattle.model.proofs.Grow.{popped-sound, expanded-sound}
 use Rattle.model.proofs.Later.{ticket-cases}
+use Rattle.model.proofs.Recorded.{knownAfter}
 use Rattle.model.proofs.Refines.{row-is, look-is}
 
 abbrev pub readBound : CostBound → Option ℕ
@@ -53,10 +54,10 @@ end-is true o t k n = refl
 end-is false true t k n = refl
 end-is false false t k n = refl
 
--- a turn, where the search was exhausted or not before it
-abbrev pub readTurn : Turn → Bool → TurnEnd
-readTurn u x =
-    record { tree = u .tree; known = readKnown (u .known); solution = readSolution (u .tree .nodes) (u .find); exhausted = exhaustedUnless (u .more) x }
+-- a turn, where the entry remembered known before it and the search was exhausted or not
+abbrev pub readTurn : KnownLen → Turn → Bool → TurnEnd
+readTurn known u x =
+    record { tree = u .tree; known = readKnown (knownAfter known (u .known)); solution = readSolution (u .tree .nodes) (u .find); exhausted = exhaustedUnless (u .more) x }
 
 -- the top of the heap is the least ticket
 top-of : (ns : List Node) (b : ℕ) (q : List ℕ) → topOf ns b q ≡ leastOf ns b q
@@ -132,9 +133,9 @@ module _ (d : Domain) (gs : List ℕ) (b : CostBound) (acc : Accepted (d .graph)
 
   -- ---- an entry's turn
 
-  grown-is : (g : Growth) (x : Bool) → grownEnd (readGrowth g) (readBound b) x ≡ readTurn (grown g b) x
+  grown-is : (known : KnownLen) (g : Growth) (x : Bool) → grownEnd (readGrowth g) (readBound b) x ≡ readTurn known (grown g b) x
   unfolding grownEnd grown
-  grown-is g x =
+  grown-is known g x =
       ap (λ (p : Bool). record {
         tree = g .tree;
         known = some (closedCount (g .tree .closed));
@@ -143,12 +144,12 @@ module _ (d : Domain) (gs : List ℕ) (b : CostBound) (acc : Accepted (d .graph)
       }) (ap (λ (o : Option ℕ). peeks (g .tree .nodes) o (readBound b)) (top-is (g .tree .nodes) (g .tree .waiting)) ∙ peeks-is (g .tree .nodes) (least (g .tree .nodes) (g .tree .waiting)) b)
 
   pub turn-is : (t : Tree) (known : KnownLen) (x : Bool) → Sound d t
-      → turnEnd d gs (readBound b) t (readKnown known) x (lookUnless (sameLen (readKnown known) (closedCount (t .closed))) t gs) ≡ readTurn (turn d gs b t known) x
+      → turnEnd d gs (readBound b) t (readKnown known) x (lookUnless (sameLen (readKnown known) (closedCount (t .closed))) t gs) ≡ readTurn known (turn d gs b t known) x
   unfolding turnEnd turn
   turn-is t known x ok = ap (turnEnd d gs (readBound b) t (readKnown known) x) (look-is d t gs known) ∙ go (lookup d t gs known)
     where
-      go : (o : Solution) → turnEnd d gs (readBound b) t (readKnown known) x (readSolution (t .nodes) o) ≡ readTurn (turnBy d gs b t known o) x
+      go : (o : Solution) → turnEnd d gs (readBound b) t (readKnown known) x (readSolution (t .nodes) o) ≡ readTurn known (turnBy d gs b t o) x
       go (At n) = refl
       go Unsolved =
           let g : Growth = record { tree = t; tickets = 0; going = on } in
-          ap (λ (r : Growing). grownEnd r (readBound b) x) (grow-is 10 g ok) ∙ grown-is (grow d gs b 10 g) x
+          ap (λ (r : Growing). grownEnd r (readBound b) x) (grow-is 10 g ok) ∙ grown-is known (grow d gs b 10 g) x

@@ -72,7 +72,7 @@ module _ (d : Domain) (acc : Accepted (d .graph)) (gs : List ℕ) (b : CostBound
   unfolding turn
   find-in n e = go (lookup d t gs known) refl e
     where
-      go : (o : Solution) → lookup d t gs known ≡ o → (turnBy d gs b t known o) .find ≡ At n → n < length ((turnBy d gs b t known o) .tree .nodes)
+      go : (o : Solution) → lookup d t gs known ≡ o → (turnBy d gs b t o) .find ≡ At n → n < length ((turnBy d gs b t o) .tree .nodes)
       go (At m) z e = lookup-in n (z ∙ e)
       go Unsolved z e = found-in n (growth .going) (growing.grown d acc gs b t ok 10 .gone) e
 

@@ -12,6 +12,7 @@ use lib.Dec.{ltb}
 use lib.ListN.{length, getD, set, length-set}
 use lib.Seq.{getD-set-same, getD-set-other, take-set-lt}
 use Rattle.model.specs.declared.CostBound.{CostBound}
+use Rattle.model.specs.declared.KnownLen.{KnownLen}
 use Rattle.model.specs.declared.Solution.{Solution}
 use Rattle.model.specs.declared.Solution.the-variants.{Unsolved, At}
 use Rattle.model.specs.declared.BestSolution.{BestSolution}
@@ -21,12 +22,13 @@ use Rattle.model.specs.declared.Search.{Search}
 use Rattle.model.specs.Graph.{Domain, Accepted}
 use Rattle.model.specs.Tree.{Tree, Node, node}
 use Rattle.model.specs.Sound.{noTree, tree, Sound, SoundTrees}
-use Rattle.model.specs.Search.{blank, entry, entries, goals, closedCount, dearer, cheaper, holdIf, hold, bestIf, recordedEntry, recorded, boundOf, bound, solutionCost, Turn, turn, Walk, round, rounds}
-use Rattle.model.specs.Search as search
+use Rattle.model.specs.Search.{blank, entry, entries, goals, closedCount, dearer, cheaper, bestIf, boundOf, bound, solutionCost, Turn, turn, Walk, round, rounds}
 use Rattle.model.specs.Reference.{Path, TreeEntry, noEntry, Memory, get, put, orNoTree, retraceNode, costBound, TurnEnd, turnEnd, sameLen, lookUnless, exhaustedUnless, priorCheaper, bestWhen, bestAfter, bestUnless, bestTurn, solutionUnless, solutionTurn, Stepping, turnOf, turnsOf, readKnown, readSolution, readEntry, readBest, readMemory}
 use Rattle.model.proofs.Later.{Later}
 use Rattle.model.proofs.Turns.{hold-from}
-use Rattle.model.proofs.Keeps.{AllLater, turn-keeps, turn-set, round-keeps, round-count, slot-kept}
+use Rattle.model.proofs.Recorded as recorded
+use Rattle.model.proofs.Recorded.{knownAfter, holdIf, hold, bestBy, entryAfter, after, slot-kept, round-after, round-count}
+use Rattle.model.proofs.Keeps.{AllLater, turn-keeps, turn-set, round-keeps}
 use Rattle.model.proofs.Retraced.{retrace-cost}
 use Rattle.model.proofs.Refines.{map-set, get-is, put-is}
 use Rattle.model.proofs.RefinesGrow.{readBound, readTurn, turn-is}
@@ -101,8 +103,11 @@ module _ (d : Domain) (acc : Accepted (d .graph)) (ts : List Tree) (s : Search) 
   abbrev ts′ : List Tree
   ts′ = set ts (e .tree) (u .tree)
 
+  abbrev known′ : KnownLen
+  known′ = knownAfter (e .«last_known_closed_len») (u .known)
+
   abbrev s′ : Search
-  s′ = recorded d b s i u
+  s′ = after d b s i u
 
   in-slot : e .tree < length ts
   in-slot = r .slots i h
@@ -119,11 +124,11 @@ module _ (d : Domain) (acc : Accepted (d .graph)) (ts : List Tree) (s : Search) 
   now : tree ts′ (e .tree) ≡ u .tree
   now = getD-set-same ts (e .tree) (u .tree) noTree in-slot
 
-  entry-now : entry s′ i ≡ recordedEntry d e u
-  entry-now = getD-set-same (s .trees) i (recordedEntry d e u) blank (omega (arith, r .sized))
+  entry-now : entry s′ i ≡ entryAfter d e u
+  entry-now = getD-set-same (s .trees) i (entryAfter d e u) blank (omega (arith, r .sized))
 
   entry-other : (j : ℕ) → j ≢ i → entry s′ j ≡ entry s j
-  entry-other j z = getD-set-other (s .trees) i j (recordedEntry d e u) blank z
+  entry-other j z = getD-set-other (s .trees) i j (entryAfter d e u) blank z
 
   slot-now : (j : ℕ) → (entry s′ j) .tree ≡ (entry s j) .tree
   slot-now j = slot-kept d (bound d ts s) s i u j
@@ -150,11 +155,11 @@ module _ (d : Domain) (acc : Accepted (d .graph)) (ts : List Tree) (s : Search) 
   in-new n z = rw (slot-now i, now) z
 
   best-in : (o : BestSolution) → s .«best_solution» ≡ o → (f : Solution) → u .find ≡ f
-      → (j n : ℕ) → search.bestAfter d ns′ b (e .solution) o i f ≡ Best j n → (j < s .«tree_count») × In j n
+      → (j n : ℕ) → recorded.bestAfter d ns′ b (e .solution) o i f ≡ Best j n → (j < s .«tree_count») × In j n
   best-in o p Unsolved q j n z = let k = r .best j n (p ∙ z) in (k .0, in-old j n (k .0) (k .1))
   best-in o p (At m) q j n z = go (dearer d ns′ m (e .solution)) (cheaper (solutionCost d ns′ m) b) z
     where
-      go : (x y : Bool) → bestIf x y o i m ≡ Best j n → (j < s .«tree_count») × In j n
+      go : (x y : Bool) → bestBy x y o i m ≡ Best j n → (j < s .«tree_count») × In j n
       go true y z = let k = r .best j n (p ∙ z) in (k .0, in-old j n (k .0) (k .1))
       go false true z =
           let zi : i ≡ j = cc in
@@ -165,7 +170,7 @@ module _ (d : Domain) (acc : Accepted (d .graph)) (ts : List Tree) (s : Search) 
   round-readable : Readable d ts′ s′
   round-readable =
       record {
-        sized = omega (arith, r .sized, length-set (s .trees) i (recordedEntry d e u));
+        sized = omega (arith, r .sized, length-set (s .trees) i (entryAfter d e u));
         slots = λ j k. rw (slot-now j) (omega (arith, r .slots j k, all-later .longer));
         held = λ j n k z. elim (ℕ-discrete j i) [
           | yes y ↦ subst (λ (x : ℕ). In x n) (sym y) (in-new n (hold-in n (sym (ap (λ (x : TreeMemory). x .solution) entry-now) ∙ subst (λ (x : ℕ). (entry s′ x) .solution ≡ At n) y z)))
@@ -179,24 +184,24 @@ module _ (d : Domain) (acc : Accepted (d .graph)) (ts : List Tree) (s : Search) 
   prior-is : readSolution (t .nodes) (e .solution) ≡ readSolution ns′ (e .solution)
   prior-is = sym (solution-later d t (u .tree) sound-t later-u (e .solution) (λ n z. r .held i n h z))
 
-  entry-is : readEntry ts′ (recordedEntry d e u)
+  entry-is : readEntry ts′ (entryAfter d e u)
       ≡ record {
         key = t .start;
-        lastKnownClosedLen = readKnown (u .known);
+        lastKnownClosedLen = readKnown known′;
         solution = solutionTurn (readSolution (t .nodes) (e .solution)) (readSolution ns′ (u .find));
       }
   unfolding readEntry
   entry-is =
-      ap (λ (x : Tree). record { key = x .start; lastKnownClosedLen = readKnown (u .known); solution = readSolution (x .nodes) (hold d ns′ (e .solution) (u .find)) }) now
-      ∙ ap₂ (λ (v : ℕ) (p : Option Path). record { key = v; lastKnownClosedLen = readKnown (u .known); solution = p }) (later-u .start)
+      ap (λ (x : Tree). record { key = x .start; lastKnownClosedLen = readKnown known′; solution = readSolution (x .nodes) (hold d ns′ (e .solution) (u .find)) }) now
+      ∙ ap₂ (λ (v : ℕ) (p : Option Path). record { key = v; lastKnownClosedLen = readKnown known′; solution = p }) (later-u .start)
       (sym (hold-is d ns′ (e .solution) (u .find)) ∙ ap (λ (p : Option Path). solutionTurn p (readSolution ns′ (u .find))) (sym prior-is))
 
   entries-is : map (readEntry ts′) (entries s′)
       ≡ set (map (readEntry ts) (entries s)) i
-      (record { key = t .start; lastKnownClosedLen = readKnown (u .known); solution = solutionTurn (readSolution (t .nodes) (e .solution)) (readSolution ns′ (u .find)) })
+      (record { key = t .start; lastKnownClosedLen = readKnown known′; solution = solutionTurn (readSolution (t .nodes) (e .solution)) (readSolution ns′ (u .find)) })
   entries-is =
-      ap (map (readEntry ts′)) (take-set-lt (s .«tree_count») (s .trees) i (recordedEntry d e u) h)
-      ∙ map-set (readEntry ts′) (entries s) i (recordedEntry d e u)
+      ap (map (readEntry ts′)) (take-set-lt (s .«tree_count») (s .trees) i (entryAfter d e u) h)
+      ∙ map-set (readEntry ts′) (entries s) i (entryAfter d e u)
       ∙ ap₂ (λ (es : List TreeEntry) (x : TreeEntry). set es i x) (entries-later d ts ts′ ok all-later s r) entry-is
 
   best-kept : readBest d ts′ s′ (s .«best_solution») ≡ readBest d ts s (s .«best_solution»)
@@ -216,24 +221,24 @@ module _ (d : Domain) (acc : Accepted (d .graph)) (ts : List Tree) (s : Search) 
       ap (λ (p : Option Path). bestTurn p (readSolution ns′ (u .find)) (readBest d ts s (s .«best_solution»)) i) prior-is ∙ go (s .«best_solution») refl (u .find)
     where
       at : (o : BestSolution) → s .«best_solution» ≡ o → (n : ℕ)
-          → bestAfter (readBest d ts s o) i ((node ns′ n) .cost) ≡ readBest d ts′ s′ (bestIf false (cheaper ((node ns′ n) .cost) (boundOf d ts s o)) o i n)
+          → bestAfter (readBest d ts s o) i ((node ns′ n) .cost) ≡ readBest d ts′ s′ (bestIf (cheaper ((node ns′ n) .cost) (boundOf d ts s o)) o i n)
       at NoBest z n = sym (best-new n)
       at (Best j m) z n = pick (ltb ((node ns′ n) .cost) (solutionCost d (tree ts ((entry s j) .tree) .nodes) m))
         where
-          pick : (q : Bool) → bestWhen q i ((node ns′ n) .cost) (record { entry = j; cost = solutionCost d (tree ts ((entry s j) .tree) .nodes) m }) ≡ readBest d ts′ s′ (bestIf false q (Best j m) i n)
+          pick : (q : Bool) → bestWhen q i ((node ns′ n) .cost) (record { entry = j; cost = solutionCost d (tree ts ((entry s j) .tree) .nodes) m }) ≡ readBest d ts′ s′ (bestIf q (Best j m) i n)
           pick true = sym (best-new n)
           pick false = sym (subst (λ (o : BestSolution). readBest d ts′ s′ o ≡ readBest d ts s o) z best-kept)
 
       go : (o : BestSolution) → s .«best_solution» ≡ o → (f : Solution)
-          → bestTurn (readSolution ns′ (e .solution)) (readSolution ns′ f) (readBest d ts s o) i ≡ readBest d ts′ s′ (search.bestAfter d ns′ (boundOf d ts s o) (e .solution) o i f)
+          → bestTurn (readSolution ns′ (e .solution)) (readSolution ns′ f) (readBest d ts s o) i ≡ readBest d ts′ s′ (recorded.bestAfter d ns′ (boundOf d ts s o) (e .solution) o i f)
       go o z Unsolved = sym (subst (λ (o : BestSolution). readBest d ts′ s′ o ≡ readBest d ts s o) z best-kept)
       go o z (At n) = ap (λ (q : Bool). bestUnless q (readBest d ts s o) i (retraceNode ns′ n)) (dearer-is d ns′ n (e .solution)) ∙ unless (dearer d ns′ n (e .solution))
         where
-          unless : (q : Bool) → bestUnless q (readBest d ts s o) i (retraceNode ns′ n) ≡ readBest d ts′ s′ (bestIf q (cheaper ((node ns′ n) .cost) (boundOf d ts s o)) o i n)
+          unless : (q : Bool) → bestUnless q (readBest d ts s o) i (retraceNode ns′ n) ≡ readBest d ts′ s′ (bestBy q (cheaper ((node ns′ n) .cost) (boundOf d ts s o)) o i n)
           unless true = sym (subst (λ (o : BestSolution). readBest d ts′ s′ o ≡ readBest d ts s o) z best-kept)
           unless false = ap (bestAfter (readBest d ts s o) i) (retrace-cost ns′ n) ∙ at o z n
 
-  ends-is : turnEnds d (readMemory d ts s) (readEntry ts e) t ≡ readTurn u (s .exhausted)
+  ends-is : turnEnds d (readMemory d ts s) (readEntry ts e) t ≡ readTurn (e .«last_known_closed_len») u (s .exhausted)
   unfolding readMemory readEntry
   ends-is =
       ap (λ (o : Option ℕ). turnEnd d (goals s) o t (readKnown (e .«last_known_closed_len»)) (s .exhausted)
@@ -241,7 +246,7 @@ module _ (d : Domain) (acc : Accepted (d .graph)) (ts : List Tree) (s : Search) 
       (bound-is d ts s (s .«best_solution»))
       ∙ turn-is d (goals s) b acc t (e .«last_known_closed_len») (s .exhausted) sound-t
 
-  leaves-is : turnLeaves i ts (readMemory d ts s) (readEntry ts e) (readTurn u (s .exhausted)) ≡ readStepping d ts′ s′
+  leaves-is : turnLeaves i ts (readMemory d ts s) (readEntry ts e) (readTurn (e .«last_known_closed_len») u (s .exhausted)) ≡ readStepping d ts′ s′
   unfolding readMemory readEntry
   leaves-is = λ k. record {
     trees = put-is d ts ok (e .tree) in-slot (u .tree) k;
@@ -259,13 +264,13 @@ module _ (d : Domain) (acc : Accepted (d .graph)) (ts : List Tree) (s : Search) 
 module _ (d : Domain) (acc : Accepted (d .graph)) where
   pub round-is : (i : ℕ) (w : Walk) → SoundTrees d (w .trees) → Readable d (w .trees) (w .search) → i < w .search .«tree_count»
       → turnOf d i (readStepping d (w .trees) (w .search)) ≡ readStepping d ((round d i w) .trees) ((round d i w) .search)
-  unfolding round
-  round-is i w ok r h = turned-is d acc (w .trees) (w .search) i ok r h
+  round-is i w ok r h =
+      turned-is d acc (w .trees) (w .search) i ok r h ∙ ap (λ (x : Walk). readStepping d (x .trees) (x .search)) (sym (round-after d i w))
 
   pub round-reads : (i : ℕ) (w : Walk) → SoundTrees d (w .trees) → Readable d (w .trees) (w .search) → i < w .search .«tree_count»
       → Readable d ((round d i w) .trees) ((round d i w) .search)
-  unfolding round
-  round-reads i w ok r h = round-readable d acc (w .trees) (w .search) i ok r h
+  round-reads i w ok r h =
+      subst (λ (x : Walk). Readable d (x .trees) (x .search)) (sym (round-after d i w)) (round-readable d acc (w .trees) (w .search) i ok r h)
 
   pub rounds-is : (k i : ℕ) (w : Walk) → SoundTrees d (w .trees) → Readable d (w .trees) (w .search) → i + k ≤ w .search .«tree_count»
       → turnsOf d k i (readStepping d (w .trees) (w .search)) ≡ readStepping d ((rounds d k i w) .trees) ((rounds d k i w) .search)

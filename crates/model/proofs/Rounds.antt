@@ -23,9 +23,11 @@ use Rattle.model.specs.Lists.{mem, allBelow}
 use Rattle.model.specs.Graph.{Domain, Accepted, Leads, total, vertexCount, initialCost}
 use Rattle.model.specs.Tree.{Tree, Node, node, evaluation}
 use Rattle.model.specs.Sound.{tree, noTree, SoundTrees}
-use Rattle.model.specs.Search.{blank, entry, goals, withExhausted, dearer, cheaper, bestIf, bestAfter, hold, holdIf, exhaustedUnless, recordedEntry, recorded, boundOf, bound, Turn, turn, Walk, round, rounds, walk}
+use Rattle.model.specs.Search.{blank, entry, goals, withExhausted, dearer, cheaper, bestIf, boundOf, bound, Turn, turn, Walk, round, rounds, walk}
 use Rattle.model.proofs.Turns.{Upto, unsolved-at, hold-held, hold-from, Holds, holds-later, Known, known-later, Under, under-le, Turned, turned}
-use Rattle.model.proofs.Keeps.{AllLater, all-refl, all-trans, Keeps, set-keeps, slot-kept}
+use Rattle.model.specs.Reference.{exhaustedUnless}
+use Rattle.model.proofs.Recorded.{bestBy, bestAfter, hold, holdIf, entryAfter, after, slot-kept, turnIn, roundAfter, round-after}
+use Rattle.model.proofs.Keeps.{AllLater, all-refl, all-trans, Keeps, set-keeps}
 
 -- ---- what a search's own record keeps
 
@@ -158,7 +160,7 @@ module _ (O : ℕ → Type 0) (d : Domain) (acc : Accepted (d .graph)) (ts : Lis
   ts₁ = set ts ((entry s i) .tree) (u .tree)
 
   abbrev s₁ : Search
-  s₁ = recorded d (bound d ts s) s i u
+  s₁ = after d (bound d ts s) s i u
 
   abbrev b₁ : CostBound
   b₁ = bound d ts₁ s₁
@@ -166,7 +168,7 @@ module _ (O : ℕ → Type 0) (d : Domain) (acc : Accepted (d .graph)) (ts : Lis
   ke : EntryOk O gs ts b e
   ke = r .entries i hi
 
-  T : Turned d gs b (tree ts (e .tree)) (e .solution) u
+  T : Turned d gs b (tree ts (e .tree)) (e .«last_known_closed_len») (e .solution) u
   T = turned d acc gs b (tree ts (e .tree)) (ok .each (e .tree) (ke .inside)) (e .«last_known_closed_len») (e .solution) (ke .known)
 
   pub round-kept : Keeps d ts ts₁
@@ -176,11 +178,11 @@ module _ (O : ℕ → Type 0) (d : Domain) (acc : Accepted (d .graph)) (ts : Lis
   at = getD-set-same ts (e .tree) (u .tree) noTree (ke .inside)
 
   -- the entries
-  entry-i : entry s₁ i ≡ recordedEntry d e u
-  entry-i = getD-set-same (s .trees) i (recordedEntry d e u) blank (omega (arith, r .arrays, r .counts))
+  entry-i : entry s₁ i ≡ entryAfter d e u
+  entry-i = getD-set-same (s .trees) i (entryAfter d e u) blank (omega (arith, r .arrays, r .counts))
 
   entry-j : (j : ℕ) → j ≢ i → entry s₁ j ≡ entry s j
-  entry-j j n = getD-set-other (s .trees) i j (recordedEntry d e u) blank n
+  entry-j j n = getD-set-other (s .trees) i j (entryAfter d e u) blank n
 
   pub round-slot : (j : ℕ) → (entry s₁ j) .tree ≡ (entry s j) .tree
   round-slot j = slot-kept d (bound d ts s) s i u j
@@ -227,16 +229,16 @@ module _ (O : ℕ → Type 0) (d : Domain) (acc : Accepted (d .graph)) (ts : Lis
       tests : (n : ℕ) → u .find ≡ At n → (p : Bool) → dearer d ns n (e .solution) ≡ p → (q : Bool) → cheaper (evaluation ns n) b ≡ q → Stays ⊎ Improves
       tests n z true p q y =
           let m = dearer-held d ns n (e .solution) p in
-          inl (stays (at-find (At n) z ∙ ap (λ (t : Bool). bestIf t (cheaper (evaluation ns n) b) (s .«best_solution») i n) p)
+          inl (stays (at-find (At n) z ∙ ap (λ (t : Bool). bestBy t (cheaper (evaluation ns n) b) (s .«best_solution») i n) p)
           (λ k w. subst (λ (x : ℕ). Under b (evaluation ns x)) (one n k z w) (under-le b _ _ (m .2) (rw (held-cost (m .0) (m .1)) (ke .low (m .0) (m .1))))))
       tests n z false p false y =
-          inl (stays (at-find (At n) z ∙ ap (λ (t : Bool). bestIf t (cheaper (evaluation ns n) b) (s .«best_solution») i n) p ∙ ap (λ (t : Bool). bestIf false t (s .«best_solution») i n) y)
+          inl (stays (at-find (At n) z ∙ ap (λ (t : Bool). bestBy t (cheaper (evaluation ns n) b) (s .«best_solution») i n) p ∙ ap (λ (t : Bool). bestIf t (s .«best_solution») i n) y)
           (λ k w. subst (λ (x : ℕ). Under b (evaluation ns x)) (one n k z w) (not-cheaper _ b y)))
       tests n z false p true y =
           inr (record {
             n = n;
             find = z;
-            best = at-find (At n) z ∙ ap (λ (t : Bool). bestIf t (cheaper (evaluation ns n) b) (s .«best_solution») i n) p ∙ ap (λ (t : Bool). bestIf false t (s .«best_solution») i n) y;
+            best = at-find (At n) z ∙ ap (λ (t : Bool). bestBy t (cheaper (evaluation ns n) b) (s .«best_solution») i n) p ∙ ap (λ (t : Bool). bestIf t (s .«best_solution») i n) y;
             holds = hold-find (At n) z ∙ ap (λ (t : Bool). holdIf t (e .solution) n) p;
             under = is-cheaper _ b y;
           })
@@ -264,12 +266,12 @@ module _ (O : ℕ → Type 0) (d : Domain) (acc : Accepted (d .graph)) (ts : Lis
   low-now : (n : ℕ) → hold d ns (e .solution) (u .find) ≡ At n → Under b₁ (evaluation ns n)
   low-now n z = elim (hold-from d ns (e .solution) (u .find) n z) [ inl y ↦ round-lower _ (rw (held-cost n y) (ke .low n y)) | inr y ↦ find-low n y ]
 
-  entry-ok : EntryOk O gs ts₁ b₁ (recordedEntry d e u)
+  entry-ok : EntryOk O gs ts₁ b₁ (entryAfter d e u)
   entry-ok =
       record {
         own = ke .own;
         inside = omega (arith, ke .inside, length-set ts (e .tree) (u .tree));
-        known = subst (λ (t : Tree). Known gs t (u .known) (hold d ns (e .solution) (u .find))) (sym at) (T .known);
+        known = subst (λ (t : Tree). Known gs t (entryAfter d e u .«last_known_closed_len») (hold d ns (e .solution) (u .find))) (sym at) (T .known);
         low = λ n z. subst (λ (t : Tree). Under b₁ (evaluation (t .nodes) n)) (sym at) (low-now n z);
       }
 
@@ -341,7 +343,7 @@ module _ (O : ℕ → Type 0) (d : Domain) (acc : Accepted (d .graph)) (ts : Lis
   pub round-ready : Ready O d ts₁ s₁
   round-ready =
       record {
-        arrays = length-set (s .trees) i (recordedEntry d e u) ∙ r .arrays;
+        arrays = length-set (s .trees) i (entryAfter d e u) ∙ r .arrays;
         counts = r .counts;
         keys = r .keys;
         key-counts = r .key-counts;
@@ -392,15 +394,10 @@ module _ (O : ℕ → Type 0) (d : Domain) (acc : Accepted (d .graph)) (ts : Lis
     here = omega (arith, k .count)
 
     abbrev turn-i : Turn
-    turn-i = turn d (goals (w .search)) (bound d (w .trees) (w .search)) (tree (w .trees) ((entry (w .search) i) .tree)) ((entry (w .search) i) .«last_known_closed_len»)
+    turn-i = turnIn d i w
 
     abbrev next : Walk
-    next =
-        record {
-          trees = set (w .trees) ((entry (w .search) i) .tree) (turn-i .tree);
-          search = recorded d (bound d (w .trees) (w .search)) (w .search) i turn-i;
-          tickets = w .tickets + turn-i .tickets;
-        }
+    next = roundAfter d i w
 
     kept-now : Keeps d (w .trees) (next .trees)
     kept-now = round-kept O d acc (w .trees) now (k .sound) (k .ready) i here
@@ -428,8 +425,8 @@ module _ (O : ℕ → Type 0) (d : Domain) (acc : Accepted (d .graph)) (ts : Lis
         let h : (entry now i) .tree < length ts = rw (k .slots i) (in-slot i hi) in
         record { inside = h; gave = omega (arith, g .gave, k .later .each _ h .taken) }
 
-    walked-next : Walked O d ts s (suc i) next
-    walked-next =
+    walked-after : Walked O d ts s (suc i) next
+    walked-after =
         record {
           sound = kept-now .0;
           later = all-trans ts (w .trees) (next .trees) (k .later) (kept-now .1);
@@ -449,8 +446,11 @@ module _ (O : ℕ → Type 0) (d : Domain) (acc : Accepted (d .graph)) (ts : Lis
           ];
         }
 
+    walked-next : Walked O d ts s (suc i) (round d i w)
+    walked-next = subst (Walked O d ts s (suc i)) (sym (round-after d i w)) walked-after
+
   rounds-walked : (n i : ℕ) (w : Walk) → n + i ≡ s .«tree_count» → Walked O d ts s i w → Walked O d ts s (s .«tree_count») (rounds d n i w)
-  unfolding rounds round
+  unfolding rounds
   rounds-walked zero i w z k = subst (λ (x : ℕ). Walked O d ts s x w) (omega (arith, z)) k
   rounds-walked (suc n) i w z k = rounds-walked n (suc i) (round d i w) (omega (arith, z)) (walked-next i w (omega (arith, z)) k)
 

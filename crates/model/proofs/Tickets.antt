@@ -21,7 +21,8 @@ use Rattle.model.specs.Valid.{valid}
 use Rattle.model.specs.Calls.{Cache, SoundCache, firstFault, stepFaults, stepIf, stepBy, step}
 use Rattle.model.proofs.Later as growing
 use Rattle.model.proofs.Faults.{or-none}
-use Rattle.model.proofs.Keeps.{round-keeps, slot-kept, round-count}
+use Rattle.model.proofs.Recorded.{round-count, round-slots}
+use Rattle.model.proofs.Keeps.{round-keeps}
 use Rattle.model.proofs.Valid.{valid-at}
 
 -- the sum of f over the trees
@@ -50,8 +51,8 @@ turn-tickets : (d : Domain) → Accepted (d .graph) → (gs : List ℕ) (b : Cos
 unfolding turn
 turn-tickets d acc gs b t known ok = go (lookup d t gs known)
   where
-    go : (o : Solution) → length ((turnBy d gs b t known o) .tree .nodes) + length (t .waiting)
-        ≡ (turnBy d gs b t known o) .tickets + (length (t .nodes) + length ((turnBy d gs b t known o) .tree .waiting))
+    go : (o : Solution) → length ((turnBy d gs b t o) .tree .nodes) + length (t .waiting)
+        ≡ (turnBy d gs b t o) .tickets + (length (t .nodes) + length ((turnBy d gs b t o) .tree .waiting))
     go Unsolved = growing.grown d acc gs b t ok 10 .tickets
     go (At n) = omega arith
 
@@ -72,12 +73,9 @@ module _ (d : Domain) (acc : Accepted (d .graph)) where
         sum-set (λ t. length (t .waiting)) (w .trees) k (u .tree) h,
       )
 
-  round-slots : (i : ℕ) (w : Walk) → Slots w → Slots (round d i w)
+  slots-stay : (i : ℕ) (w : Walk) → Slots w → Slots (round d i w)
   unfolding round
-  round-slots i w f j h =
-      let k : ℕ = (entry (w .search) i) .tree in
-      let u : Turn = turn d (goals (w .search)) (bound d (w .trees) (w .search)) (tree (w .trees) k) ((entry (w .search) i) .«last_known_closed_len») in
-      omega (arith, slot-kept d (bound d (w .trees) (w .search)) (w .search) i u j, f j h, length-set (w .trees) k (u .tree))
+  slots-stay i w f j h = rw (round-slots d i w j, length-set (w .trees) _ _) (f j (omega (arith, round-count d i w)))
 
   rounds-tickets : (n i : ℕ) (w : Walk) → SoundTrees d (w .trees) → Slots w → n + i ≤ w .search .«tree_count»
       → used ((rounds d n i w) .trees) + queued (w .trees) + w .tickets ≡ (rounds d n i w) .tickets + (used (w .trees) + queued ((rounds d n i w) .trees))
@@ -87,7 +85,7 @@ module _ (d : Domain) (acc : Accepted (d .graph)) where
       omega (
         arith,
         round-tickets i w ok (f i (omega arith)),
-        rounds-tickets n (suc i) (round d i w) (round-keeps d acc i w ok .0) (round-slots i w f) (omega (arith, round-count d i w)),
+        rounds-tickets n (suc i) (round d i w) (round-keeps d acc i w ok .0) (slots-stay i w f) (omega (arith, round-count d i w)),
       )
 
   pub walk-tickets : (ts : List Tree) (s : Search) → SoundTrees d ts → ((i : ℕ) → i < s .«tree_count» → (entry s i) .tree < length ts) → Tickets ts ((walk d ts s) .trees) ((walk d ts s) .tickets)

@@ -20,7 +20,8 @@ use Rattle.model.specs.Lists.{mem}
 use Rattle.model.specs.Graph.{Domain, Accepted, Leads, total, initialCost}
 use Rattle.model.specs.Tree.{Tree, Node, node, closedAt, evaluation, Going, on, found, over, Growth, least, leastOf}
 use Rattle.model.specs.Sound.{Sound}
-use Rattle.model.specs.Search.{closedCount, remembers, chosen, consider, cheapest, lookup, lookupIf, Turn, findOf, under, grown, turnBy, turn, dearer, holdIf, hold}
+use Rattle.model.specs.Search.{closedCount, remembers, chosen, consider, cheapest, lookup, lookupIf, Turn, findOf, under, grown, turnBy, turn, dearer}
+use Rattle.model.proofs.Recorded.{knownAfter, holdIf, hold}
 use Rattle.model.proofs.Lists.{Least, least-is, before-cost, mem-nil, mem-head, mem-tail, mem-cases}
 use Rattle.model.proofs.Least.{Front, done, later, front-start}
 use Rattle.model.proofs.Later.{Later, later-refl, Gone, Grew, Moved}
@@ -210,10 +211,11 @@ pub under-le : (b : CostBound) (k j : ℕ) → k ≤ j → Under b k → Under b
 under-le Unbounded k j h u = u
 under-le (Bound b) k j h u = omega arith
 
-pub record Turned (d : Domain) (gs : List ℕ) (b : CostBound) (t : Tree) (held : Solution) (u : Turn) : Type 0 where
+-- of an entry that remembered prior and held held
+pub record Turned (d : Domain) (gs : List ℕ) (b : CostBound) (t : Tree) (prior : KnownLen) (held : Solution) (u : Turn) : Type 0 where
   pub sound : Sound d (u .tree)
   pub later : Later t (u .tree)
-  pub known : Known gs (u .tree) (u .known) (hold d (u .tree .nodes) held (u .find))
+  pub known : Known gs (u .tree) (knownAfter prior (u .known)) (hold d (u .tree .nodes) held (u .find))
   pub finds : (n : ℕ) → u .find ≡ At n → Holds gs (u .tree) n
   pub done : u .more ≡ false → (v : ℕ) (ls : List ℕ) → mem v gs ≡ true → Leads (d .graph) (t .start) ls v
       → Upto (u .tree .nodes) (hold d (u .tree .nodes) held (u .find)) (initialCost d (t .start) + total (d .graph) ls) ⊎ Under b (initialCost d (t .start) + total (d .graph) ls)
@@ -242,7 +244,7 @@ module _ (d : Domain) (acc : Accepted (d .graph)) (gs : List ℕ) (b : CostBound
   looked-done n l v k e (done i z h) = le-trans (l .least v i e z) h
   looked-done n l v k e (later j q h) = le-trans (ok .cheapest (l .v) n j (l .closes) q) h
 
-  found-turn : (n : ℕ) → Looked t gs n → Turned d gs b t held (record { tree = t; known = known; find = At n; more = false; tickets = 0 })
+  found-turn : (n : ℕ) → Looked t gs n → Turned d gs b t known held (record { tree = t; known = Never; find = At n; more = false; tickets = 0 })
   found-turn n l =
       record {
         sound = ok;
@@ -297,7 +299,7 @@ module _ (d : Domain) (acc : Accepted (d .graph)) (gs : List ℕ) (b : CostBound
         subst (λ (x : ℕ). Front (g .tree) v (initialCost d x + total (d .graph) ls)) (r .later .start)
         (front-start d (g .tree) (r .sound) v ls (subst (λ (x : ℕ). Leads (d .graph) x ls v) (sym (r .later .start)) l))
 
-    grown-turn : Turned d gs b t held (grown g b)
+    grown-turn : Turned d gs b t known held (grown g b)
     unfolding grown
     grown-turn =
         record {
@@ -314,10 +316,10 @@ module _ (d : Domain) (acc : Accepted (d .graph)) (gs : List ℕ) (b : CostBound
           moves = grown-moves;
         }
 
-  pub turned : Turned d gs b t held (turn d gs b t known)
+  pub turned : Turned d gs b t known held (turn d gs b t known)
   unfolding turn
   turned = go (lookup d t gs known) refl
     where
-      go : (o : Solution) → lookup d t gs known ≡ o → Turned d gs b t held (turnBy d gs b t known o)
+      go : (o : Solution) → lookup d t gs known ≡ o → Turned d gs b t known held (turnBy d gs b t o)
       go Unsolved e = grown-turn e _ (growing.grown d acc gs b t ok 10) (growing.moved d acc gs b t ok 9)
       go (At n) e = found-turn n (lookup-some d t gs known n e)

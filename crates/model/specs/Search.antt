@@ -37,18 +37,7 @@ entries s = take (s .«tree_count») (s .trees)
 abbrev pub goals : Search → List ℕ
 goals s = take (s .«goal_count») (s .«goal_keys»)
 
-abbrev pub withExhausted : Search → Bool → Search
-withExhausted s x =
-    record {
-      trees = s .trees;
-      «tree_count» = s .«tree_count»;
-      «goal_keys» = s .«goal_keys»;
-      «goal_count» = s .«goal_count»;
-      «best_solution» = s .«best_solution»;
-      exhausted = x;
-    }
-
--- ---- what the methods of a search change: one entry or goal more, an entry's turn
+-- ---- what the methods of a search change
 
 abbrev pub entryOf : ℕ → TreeMemory
 entryOf i = record { tree = i; «last_known_closed_len» = Never; solution = Unsolved }
@@ -75,16 +64,45 @@ withGoal s v =
       exhausted = s .exhausted;
     }
 
--- "Methods on the search struct record finds, remembered counts and the finished mark, returning the new search.": the turn of entry i, with
--- the entry e that it left, the best, and the mark
-abbrev pub withTurn : Search → ℕ → TreeMemory → BestSolution → Bool → Search
-withTurn s i e best x =
+-- "Methods on the search struct record finds, remembered counts and the finished mark, returning the new search."
+
+-- entry i is e from now on, and the best is x
+abbrev pub withTree : Search → ℕ → TreeMemory → BestSolution → Search
+withTree s i e x =
     record {
       trees = set (s .trees) i e;
       «tree_count» = s .«tree_count»;
       «goal_keys» = s .«goal_keys»;
       «goal_count» = s .«goal_count»;
-      «best_solution» = best;
+      «best_solution» = x;
+      exhausted = s .exhausted;
+    }
+
+abbrev pub bestIf : Bool → BestSolution → ℕ → ℕ → BestSolution
+bestIf true old i n = Best i n
+bestIf false old i n = old
+
+-- a find: node n, which entry i holds from now on; x: whether it is the best
+abbrev pub withFind : Search → ℕ → ℕ → Bool → Search
+withFind s i n x =
+    let e = entry s i in
+    withTree s i (record { tree = e .tree; «last_known_closed_len» = e .«last_known_closed_len»; solution = At n }) (bestIf x (s .«best_solution») i n)
+
+-- a remembered count: n, by entry i
+abbrev pub withKnownLen : Search → ℕ → ℕ → Search
+withKnownLen s i n =
+    let e = entry s i in
+    withTree s i (record { tree = e .tree; «last_known_closed_len» = Len n; solution = e .solution }) (s .«best_solution»)
+
+-- the finished mark
+abbrev pub withExhausted : Search → Bool → Search
+withExhausted s x =
+    record {
+      trees = s .trees;
+      «tree_count» = s .«tree_count»;
+      «goal_keys» = s .«goal_keys»;
+      «goal_count» = s .«goal_count»;
+      «best_solution» = s .«best_solution»;
       exhausted = x;
     }
 
@@ -131,6 +149,7 @@ lookup d t gs known = lookupIf (remembers known (closedCount (t .closed))) d (t 
 
 -- ---- an entry's turn
 
+-- what an entry's turn came to; known is the closed count to remember, if there is one
 pub record Turn : Type 0 where
   pub tree : Tree
   pub known : KnownLen
@@ -162,16 +181,28 @@ grown g b =
     }
 
 -- a find by lookup: "no growing, nothing remembered"; 2. "With no find, the entry takes at most ten tickets"
-unfoldable pub turnBy : Domain → List ℕ → CostBound → Tree → KnownLen → Solution → Turn
+unfoldable pub turnBy : Domain → List ℕ → CostBound → Tree → Solution → Turn
 unfolding grown grow
-turnBy d gs b t known (At n) = record { tree = t; known = known; find = At n; more = false; tickets = 0 }
-turnBy d gs b t known Unsolved = grown (grow d gs b 10 (record { tree = t; tickets = 0; going = on })) b
+turnBy d gs b t (At n) = record { tree = t; known = Never; find = At n; more = false; tickets = 0 }
+turnBy d gs b t Unsolved = grown (grow d gs b 10 (record { tree = t; tickets = 0; going = on })) b
 
 unfoldable pub turn : Domain → List ℕ → CostBound → Tree → KnownLen → Turn
 unfolding turnBy lookup
-turn d gs b t known = turnBy d gs b t known (lookup d t gs known)
+turn d gs b t known = turnBy d gs b t (lookup d t gs known)
 
--- ---- 4. "A find replaces the entry's run unless dearer, and is best only if strictly cheaper."
+-- ---- what is recorded of it
+
+-- 3. "If the entry had no find by lookup, the closed count is remembered"
+abbrev pub remembered : Search → ℕ → KnownLen → Search
+remembered s i Never = s
+remembered s i (Len n) = withKnownLen s i n
+
+-- "and a queue .. keeps the search unfinished"
+abbrev pub unfinishedIf : Bool → Search → Search
+unfinishedIf true s = withExhausted s false
+unfinishedIf false s = s
+
+-- 4. "A find replaces the entry's run unless dearer, and is best only if strictly cheaper."
 
 abbrev pub dearer : Domain → List Node → ℕ → Solution → Bool
 dearer d ns n Unsolved = false
@@ -181,39 +212,17 @@ abbrev pub cheaper : ℕ → CostBound → Bool
 cheaper k Unbounded = true
 cheaper k (Bound b) = ltb k b
 
-abbrev pub holdIf : Bool → Solution → ℕ → Solution
-holdIf true h n = h
-holdIf false h n = At n
+abbrev pub replacedUnless : Bool → Search → ℕ → ℕ → Bool → Search
+replacedUnless true s i n x = s
+replacedUnless false s i n x = withFind s i n x
 
--- the solution held after a find, where h was held
-abbrev pub hold : Domain → List Node → Solution → Solution → Solution
-hold d ns h Unsolved = h
-hold d ns h (At n) = holdIf (dearer d ns n h) h n
+abbrev pub replaced : Domain → List Node → CostBound → Search → ℕ → Solution → Search
+replaced d ns b s i Unsolved = s
+replaced d ns b s i (At n) = replacedUnless (dearer d ns n (entry s i .solution)) s i n (cheaper (solutionCost d ns n) b)
 
-abbrev pub bestIf : Bool → Bool → BestSolution → ℕ → ℕ → BestSolution
-bestIf true c old i n = old
-bestIf false true old i n = Best i n
-bestIf false false old i n = old
-
--- the best after a find of entry i, where h was held and b is the bound
-abbrev pub bestAfter : Domain → List Node → CostBound → Solution → BestSolution → ℕ → Solution → BestSolution
-bestAfter d ns b h old i Unsolved = old
-bestAfter d ns b h old i (At n) = bestIf (dearer d ns n h) (cheaper (solutionCost d ns n) b) old i n
-
--- "keeps the search unfinished"
-abbrev pub exhaustedUnless : Bool → Bool → Bool
-exhaustedUnless true x = false
-exhaustedUnless false x = x
-
--- the entry, and the record, after the turn u of entry i
-abbrev pub recordedEntry : Domain → TreeMemory → Turn → TreeMemory
-recordedEntry d e u = record { tree = e .tree; «last_known_closed_len» = u .known; solution = hold d (u .tree .nodes) (e .solution) (u .find) }
-
-abbrev pub recorded : Domain → CostBound → Search → ℕ → Turn → Search
-recorded d b s i u =
-    let e = entry s i in
-    let ns = u .tree .nodes in
-    withTurn s i (recordedEntry d e u) (bestAfter d ns b (e .solution) (s .«best_solution») i (u .find)) (exhaustedUnless (u .more) (s .exhausted))
+-- the record after the turn u of entry i, with the bound b: 3., then 4.
+unfoldable pub recorded : Domain → CostBound → Search → ℕ → Turn → Search
+recorded d b s i u = replaced d (u .tree .nodes) b (unfinishedIf (u .more) (remembered s i (u .known))) i (u .find)
 
 -- ---- a step: "for each entry in order"
 
@@ -231,7 +240,7 @@ pub record Walk : Type 0 where
   pub tickets : ℕ
 
 unfoldable pub round : Domain → ℕ → Walk → Walk
-unfolding turn
+unfolding turn recorded
 round d i w =
     let s = w .search in
     let e = entry s i in

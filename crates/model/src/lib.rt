@@ -7,7 +7,7 @@ ghost use mathlib.Core.Path.{_≡_};
 ghost use Prim.Native.Nat.{_<_};
 ghost use Rattle.model.specs.Limits.{listLimit};
 ghost use Rattle.model.specs.Answers.{number as Answers·number};
-ghost use Rattle.model.specs.Search.{emptySearch, withEntry, withGoal, withTurn, withExhausted};
+ghost use Rattle.model.specs.Search.{emptySearch, withEntry, withGoal, bestIf, withFind, withKnownLen, withExhausted};
 
 // Returned instead of an answer; specs/Answers.antt numbers them.
 pub enum Refusal {
@@ -128,29 +128,45 @@ impl Search {
         self
     }
 
-    // What the turn of an entry came to: the entry with its remembered count and its find, the best, and the finished mark. They are
-    // recorded together, for each method copies the record.
-    pub fn with_turn(
-        self,
-        entry: usize,
-        memory: TreeMemory,
-        best_solution: BestSolution,
-        exhausted: bool,
-    ) -> Search
+    // A find, which the entry holds from now on, and which may be the best.
+    pub fn with_find(self, entry: usize, node: u32, is_best: bool) -> Search
         requires { ⌜ entry < listLimit ⌝ }
-        ensures { λ r. ⌜ r ≡ withTurn self entry memory «best_solution» exhausted ⌝ }
+        ensures { λ r. ⌜ r ≡ withFind self entry node «is_best» ⌝ }
     {
         let mut trees = self.trees;
-        trees[entry] = memory;
+        let memory = trees[entry];
+        let last_known_closed_len = memory.last_known_closed_len;
+        trees[entry] = TreeMemory {
+            tree: memory.tree,
+            last_known_closed_len,
+            solution: Solution::At(node),
+        };
         let goal_keys = self.goal_keys;
+        let best = self.best_solution;
+        let best_solution = best_after(best, entry, node, is_best);
         Search {
             trees,
             tree_count: self.tree_count,
             goal_keys,
             goal_count: self.goal_count,
             best_solution,
-            exhausted,
+            exhausted: self.exhausted,
         }
+    }
+
+    // A closed count remembered by an entry.
+    pub fn with_known_len(mut self, entry: usize, len: usize) -> Search
+        requires { ⌜ entry < listLimit ⌝ }
+        ensures { λ r. ⌜ r ≡ withKnownLen self entry len ⌝ }
+    {
+        let memory = self.trees[entry];
+        let solution = memory.solution;
+        self.trees[entry] = TreeMemory {
+            tree: memory.tree,
+            last_known_closed_len: KnownLen::Len(len),
+            solution,
+        };
+        self
     }
 
     // The finished mark.
@@ -160,6 +176,16 @@ impl Search {
         self.exhausted = exhausted;
         self
     }
+}
+
+// The best after a find.
+fn best_after(best: BestSolution, entry: usize, node: u32, is_best: bool) -> BestSolution
+    ensures { λ r. ⌜ r ≡ bestIf «is_best» best entry node ⌝ }
+{
+    if is_best {
+        return BestSolution::Best { entry, node };
+    }
+    best
 }
 
 pub enum SearchStatus {

@@ -9,7 +9,7 @@ use native.Mathlib.Omega.{arith}
 use lib.ListN.{set}
 use lib.Seq.{set-getD, getD-set-same}
 use Rattle.model.specs.declared.CostBound.{CostBound}
-use Rattle.model.specs.declared.KnownLen.the-variants.{Len}
+use Rattle.model.specs.declared.KnownLen.the-variants.{Never, Len}
 use Rattle.model.specs.declared.Solution.{Solution}
 use Rattle.model.specs.declared.Solution.the-variants.{Unsolved, At}
 use Rattle.model.specs.declared.TreeMemory.{TreeMemory}
@@ -52,9 +52,9 @@ module _ {ws : List ℕ} (e : TreeMemory) {gs : List ℕ} (can : CanTurn ws (e .
   turns-grown {r} {left} z t =
       subst (λ (u : Turn). Turns ws (e .tree) u r left) (sym (turn-grown (readCache ws .domain) gs b (treeAt ws (e .tree)) (e .«last_known_closed_len») (sym l ∙ z))) t
 
-  pub turns-found : {n : ℕ} → o ≡ At n → Turns ws (e .tree) (turnOf ws e gs b) (record { known = e .«last_known_closed_len»; find = o; more = false; tickets = 0 }) ws
+  pub turns-found : {n : ℕ} → o ≡ At n → Turns ws (e .tree) (turnOf ws e gs b) (record { known = Never; find = o; more = false; tickets = 0 }) ws
   turns-found {n} z =
-      subst (λ (u : Turn). Turns ws (e .tree) u (record { known = e .«last_known_closed_len»; find = o; more = false; tickets = 0 }) ws)
+      subst (λ (u : Turn). Turns ws (e .tree) u (record { known = Never; find = o; more = false; tickets = 0 }) ws)
       (sym (turn-found (readCache ws .domain) gs b (treeAt ws (e .tree)) (e .«last_known_closed_len») n (sym l ∙ z)))
       (record {
         known = refl;

@@ -1,6 +1,6 @@
--- A find compared with what is held, and what is held after it.
+-- A find compared with what is held.
 -- Assumes nothing.
-use mathlib.Core.Path.{_≡_, refl, sym, ap, ap₂, _∙_}
+use mathlib.Core.Path.{_≡_, refl, sym, ap, _∙_}
 use mathlib.Core.Bool.{Bool, true, false}
 use mathlib.Core.List.{List}
 use Prim.Native.Nat.{ℕ}
@@ -12,13 +12,14 @@ use Rattle.model.specs.declared.Solution.the-variants.{Unsolved, At}
 use Rattle.model.specs.declared.BestSolution.{BestSolution}
 use Rattle.model.specs.declared.BestSolution.the-variants.{Best}
 use Rattle.model.specs.declared.TreeMemory.{TreeMemory}
+use Rattle.model.specs.declared.Search.{Search}
 use Rattle.model.specs.Graph.{Domain}
 use Rattle.model.specs.Tree.{Node, evaluation}
-use Rattle.model.specs.Search.{dearer, cheaper, holdIf, bestIf}
-use Rattle.layout.specs.Read.{readCache}
+use Rattle.model.specs.Search.{entry, dearer, cheaper, withFind, replacedUnless, replaced}
 use Rattle.memory.specs.Memory.{HasNode}
 use Rattle.turn.specs.declared.Found.{Found}
-use Rattle.turn.specs.Turn.{treeAt, boundIn, CanRecord, foundOf, CanCompare, dearerIn}
+use Rattle.turn.specs.declared.Found.the-variants.{Nothing, Replaces}
+use Rattle.turn.specs.Turn.{treeAt, boundIn, CanRecord, CanCompare, dearerIn, foundUnless, foundIn, foundOf}
 
 -- ---- the best, and the solution that is held
 
@@ -31,11 +32,7 @@ held-node {n = n} c e = record { used = c .used; node = c .node n e }
 pub held-dearer : (ns : List Node) (k : ℕ) {n x : ℕ} {held : Solution} → held ≡ At n → x ≡ evaluation ns n → ltb x k ≡ dearerIn ns k held
 held-dearer ns k e c = ap (λ (y : ℕ). ltb y k) c ∙ sym (ap (dearerIn ns k) e)
 
-dearer-is : (d : Domain) (ns : List Node) (n : ℕ) (h : Solution) → dearer d ns n h ≡ dearerIn ns (evaluation ns n) h
-dearer-is d ns n Unsolved = refl
-dearer-is d ns n (At h) = refl
-
--- ---- the find o of entry i, which was e
+-- ---- the find o of the entry e
 
 module _ {ws : List ℕ} {e : TreeMemory} {o : Solution} (can : CanRecord ws e o) where
   pub find-node : {n : ℕ} → o ≡ At n → HasNode ws (e .tree) n
@@ -44,34 +41,42 @@ module _ {ws : List ℕ} {e : TreeMemory} {o : Solution} (can : CanRecord ws e o
   pub can-compare : CanCompare ws (e .tree) (e .solution)
   can-compare = record { used = can .used; node = can .held }
 
-module _ (ws : List ℕ) (e : TreeMemory) (b : CostBound) (x : BestSolution) (i : ℕ) where
-  pub found-none : {o : Solution} → o ≡ Unsolved → record { solution = e .solution; best = x } ≡ foundOf ws e o b x i
-  found-none z = sym (ap (λ (y : Solution). foundOf ws e y b x i) z)
+module _ (ws : List ℕ) (e : TreeMemory) (b : CostBound) where
+  pub found-none : {o : Solution} → o ≡ Unsolved → Nothing ≡ foundOf ws e o b
+  found-none z = sym (ap (λ (y : Solution). foundOf ws e y b) z)
 
   abbrev ns : List Node
   ns = treeAt ws (e .tree) .nodes
 
-  abbrev foundBy : Bool → Bool → ℕ → Found
-  foundBy dear less n = record { solution = holdIf dear (e .solution) n; best = bestIf dear less x i n }
-
   -- k: what the find costs; dear: whether what is held costs less
   module _ {o : Solution} {n k : ℕ} {dear : Bool} (z : o ≡ At n) (cost : k ≡ evaluation ns n) (test : dear ≡ dearerIn ns k (e .solution)) where
-    is-found : foundOf ws e o b x i ≡ foundBy dear (cheaper k b) n
-    is-found =
-        ap (λ (y : Solution). foundOf ws e y b x i) z
-        ∙ ap₂ (λ (p q : Bool). foundBy p q n) (dearer-is (readCache ws .domain) ns n (e .solution) ∙ sym (test ∙ ap (λ (y : ℕ). dearerIn ns y (e .solution)) cost))
-        (ap (λ (y : ℕ). cheaper y b) (sym cost))
+    is-found : foundOf ws e o b ≡ foundUnless dear n (cheaper k b)
+    is-found = ap (λ (y : Solution). foundOf ws e y b) z ∙ sym (ap (λ (p : Bool). foundUnless p n (cheaper k b)) test ∙ ap (λ (y : ℕ). foundUnless (dearerIn ns y (e .solution)) n (cheaper y b)) cost)
 
-    pub found-dearer : dear ≡ true → record { solution = e .solution; best = x } ≡ foundOf ws e o b x i
-    found-dearer q = sym (is-found ∙ ap (λ (p : Bool). foundBy p (cheaper k b) n) q)
+    pub found-dearer : dear ≡ true → Nothing ≡ foundOf ws e o b
+    found-dearer q = sym (is-found ∙ ap (λ (p : Bool). foundUnless p n (cheaper k b)) q)
 
     -- less: whether the find costs less than the bound
-    module _ {less : Bool} (q : dear ≡ false) (l : less ≡ cheaper k b) where
-      held-is : foundOf ws e o b x i ≡ foundBy false less n
-      held-is = is-found ∙ ap₂ (λ (p r : Bool). foundBy p r n) q (sym l)
+    pub found-replaces : {less : Bool} → dear ≡ false → less ≡ cheaper k b → Replaces n less ≡ foundOf ws e o b
+    found-replaces {less} q l = sym (is-found ∙ ap (λ (p : Bool). foundUnless p n (cheaper k b)) q ∙ ap (Replaces n) (sym l))
 
-      pub found-best : less ≡ true → record { solution = At n; best = Best i n } ≡ foundOf ws e o b x i
-      found-best m = sym (held-is ∙ ap (λ (r : Bool). foundBy false r n) m)
+-- ---- what is recorded of it
 
-      pub found-held : less ≡ false → record { solution = At n; best = x } ≡ foundOf ws e o b x i
-      found-held m = sym (held-is ∙ ap (λ (r : Bool). foundBy false r n) m)
+abbrev pub withFound : Search → ℕ → Found → Search
+withFound s i Nothing = s
+withFound s i (Replaces n x) = withFind s i n x
+
+dearer-is : (d : Domain) (ns : List Node) (n : ℕ) (h : Solution) → dearer d ns n h ≡ dearerIn ns (evaluation ns n) h
+dearer-is d ns n Unsolved = refl
+dearer-is d ns n (At h) = refl
+
+pub with-found : (d : Domain) (ns : List Node) (b : CostBound) (s : Search) (i : ℕ) (o : Solution) → withFound s i (foundIn ns (entry s i .solution) b o) ≡ replaced d ns b s i o
+with-found d ns b s i Unsolved = refl
+with-found d ns b s i (At n) = go (dearerIn ns (evaluation ns n) (entry s i .solution)) ∙ sym (ap (λ (p : Bool). replacedUnless p s i n less) (dearer-is d ns n (entry s i .solution)))
+  where
+    less : Bool
+    less = cheaper (evaluation ns n) b
+
+    go : (p : Bool) → withFound s i (foundUnless p n less) ≡ replacedUnless p s i n less
+    go true = refl
+    go false = refl

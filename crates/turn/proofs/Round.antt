@@ -17,8 +17,9 @@ use Rattle.model.specs.declared.Search.{Search}
 use Rattle.model.specs.Graph.{Domain, Accepted}
 use Rattle.model.specs.Tree.{Tree, Node}
 use Rattle.model.specs.Sound.{Sound, tree}
-use Rattle.model.specs.Search.{entry, goals, boundOf, bound, hold, bestAfter, exhaustedUnless, withTurn, Turn, turn, Walk, round}
+use Rattle.model.specs.Search.{entry, goals, boundOf, bound, remembered, unfinishedIf, Turn, turn, Walk, round}
 use Rattle.model.specs.Calls.{Cache, withTrees}
+use Rattle.model.proofs.Recorded.{held-kept}
 use Rattle.model.proofs.Keeps.{turn-keeps}
 use Rattle.model.proofs.RefinesRead.{find-in}
 use Rattle.layout.specs.Read.{readCache}
@@ -29,7 +30,8 @@ use Rattle.memory.specs.Memory.{Fits, FitsWords, HasNode}
 use Rattle.memory.proofs.Fits.{in-use, best-few, best-node}
 use Rattle.turn.specs.declared.Outcome.{Outcome}
 use Rattle.turn.specs.declared.Found.{Found}
-use Rattle.turn.specs.Turn.{treeAt, bestEntry, CanBound, boundIn, CanTurn, turnOf, Turns, CanRecord, foundOf}
+use Rattle.turn.specs.Turn.{treeAt, bestEntry, CanBound, boundIn, CanTurn, turnOf, Turns, CanRecord, foundIn, foundOf}
+use Rattle.turn.proofs.Held.{withFound, with-found}
 use Rattle.turn.proofs.Turning.{turn-few}
 use Rattle.turn.proofs.Fits.{round-fits}
 use Rattle.turn.proofs.Grown.{tree-left}
@@ -148,12 +150,12 @@ module _ {ws : List ℕ} {s : Search} {i : ℕ} (has : HasEntry ws s i) where
       pub few-tickets : r .tickets ≤ 10
       few-tickets = omega (arith, turns .tickets, turn-few d (goals s) most (treeAt ws slot) (entry s i .«last_known_closed_len»))
 
-      -- ---- what is recorded
+      -- ---- what is recorded: the count and the mark, then the find
 
-      pub rounds : {f : Found} {x : Bool} {next : Search} → f ≡ foundOf left (entry s i) (r .find) b (s .«best_solution») i → x ≡ exhaustedUnless (r .more) (s .exhausted)
-          → next ≡ withTurn s i (record { tree = slot; «last_known_closed_len» = r .known; solution = f .solution }) (f .best) x → Rounds ws s i next (r .tickets) left
+      pub rounds : {counted marked next : Search} {f : Found} → counted ≡ remembered s i (r .known) → marked ≡ unfinishedIf (r .more) counted
+          → f ≡ foundOf left (entry s i) (r .find) b → next ≡ withFound marked i f → Rounds ws s i next (r .tickets) left
       unfolding round
-      rounds {f} {x} {next} found mark h = record {
+      rounds {marked = marked} {next} {f} count mark found h = record {
         search = search-is;
         tickets = omega (arith, turns .tickets);
         few = few-tickets;
@@ -165,28 +167,22 @@ module _ {ws : List ℕ} {s : Search} {i : ℕ} (has : HasEntry ws s i) where
         outside = turns .outside;
       }
         where
-          held : Solution
-          held = entry s i .solution
+          ns : List Node
+          ns = u .tree .nodes
 
-          best : BestSolution
-          best = s .«best_solution»
+          rest : Search
+          rest = unfinishedIf (u .more) (remembered s i (u .known))
+
+          rest-is : marked ≡ rest
+          rest-is = mark ∙ ap (unfinishedIf (r .more)) count ∙ ap₂ (λ (m : Bool) (known : KnownLen). unfinishedIf m (remembered s i known)) (turns .more) (turns .known)
 
           -- what was found is what the model's turn gives
-          founds : Domain → List Node → CostBound → Solution → Found
-          founds c ns m o = record { solution = hold c ns held o; best = bestAfter c ns m held best i o }
-
-          found-is : f ≡ founds d (u .tree .nodes) most (u .find)
+          found-is : f ≡ foundIn ns (entry rest i .solution) most (u .find)
           found-is =
               found
-              ∙ ap (λ (c : Cache). founds (c .domain) (treeAt left slot .nodes) b (r .find)) (turns .cache)
-              ∙ ap (λ (t : Tree). founds d (t .nodes) b (r .find)) left-tree
-              ∙ ap₂ (founds d (u .tree .nodes)) most-is (turns .find)
-
-          nexts : KnownLen → Found → Bool → Search
-          nexts known y = withTurn s i (record { tree = slot; «last_known_closed_len» = known; solution = y .solution }) (y .best)
+              ∙ ap (λ (t : Tree). foundIn (t .nodes) (entry s i .solution) b (r .find)) left-tree
+              ∙ ap₂ (λ (m : CostBound) (o : Solution). foundIn ns (entry s i .solution) m o) most-is (turns .find)
+              ∙ sym (ap (λ (x : Solution). foundIn ns x most (u .find)) (held-kept s i (u .more) (u .known)))
 
           search-is : next ≡ roundOf ws s i .search
-          search-is =
-              h
-              ∙ ap₂ (λ (known : KnownLen) (y : Found). nexts known y x) (turns .known) found-is
-              ∙ ap (nexts (u .known) (founds d (u .tree .nodes) most (u .find))) (mark ∙ ap (λ (m : Bool). exhaustedUnless m (s .exhausted)) (turns .more))
+          search-is = h ∙ ap₂ (λ (x : Search) (y : Found). withFound x i y) rest-is found-is ∙ with-found d ns most rest i (u .find)

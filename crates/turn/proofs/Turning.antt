@@ -9,6 +9,7 @@ use native.Mathlib.Omega.{arith}
 use lib.Dec.{eqb}
 use Rattle.model.specs.declared.CostBound.{CostBound}
 use Rattle.model.specs.declared.KnownLen.{KnownLen}
+use Rattle.model.specs.declared.KnownLen.the-variants.{Never}
 use Rattle.model.specs.declared.Solution.{Solution}
 use Rattle.model.specs.declared.Solution.the-variants.{Unsolved, At}
 use Rattle.model.specs.Graph.{Domain}
@@ -20,13 +21,13 @@ module _ (d : Domain) (gs : List ℕ) (b : CostBound) (t : Tree) where
   abbrev pub growth : Growth
   growth = grow d gs b 10 (record { tree = t; tickets = 0; going = on })
 
-  pub turn-found : (known : KnownLen) (n : ℕ) → lookup d t gs known ≡ At n → turn d gs b t known ≡ record { tree = t; known = known; find = At n; more = false; tickets = 0 }
+  pub turn-found : (known : KnownLen) (n : ℕ) → lookup d t gs known ≡ At n → turn d gs b t known ≡ record { tree = t; known = Never; find = At n; more = false; tickets = 0 }
   unfolding turn
-  turn-found known n e = ap (turnBy d gs b t known) e
+  turn-found known n e = ap (turnBy d gs b t) e
 
   pub turn-grown : (known : KnownLen) → lookup d t gs known ≡ Unsolved → turn d gs b t known ≡ grown growth b
   unfolding turn
-  turn-grown known e = ap (turnBy d gs b t known) e
+  turn-grown known e = ap (turnBy d gs b t) e
 
 -- ---- tickets
 
@@ -53,14 +54,14 @@ module _ (d : Domain) (gs : List ℕ) (b : CostBound) where
       let next : Growth = ticket d gs b (g .tree) (g .tickets) (g .going) in
       omega (arith, grow-few j next, ticket-few (g .tree) (g .tickets) (g .going))
 
-turnBy-few : (d : Domain) (gs : List ℕ) (b : CostBound) (t : Tree) (known : KnownLen) (f : Solution) → turnBy d gs b t known f .tickets ≤ 10
+turnBy-few : (d : Domain) (gs : List ℕ) (b : CostBound) (t : Tree) (f : Solution) → turnBy d gs b t f .tickets ≤ 10
 unfolding turnBy grown
-turnBy-few d gs b t known Unsolved = omega (arith, grow-few d gs b 10 (record { tree = t; tickets = 0; going = on }))
-turnBy-few d gs b t known (At n) = omega arith
+turnBy-few d gs b t Unsolved = omega (arith, grow-few d gs b 10 (record { tree = t; tickets = 0; going = on }))
+turnBy-few d gs b t (At n) = omega arith
 
 pub turn-few : (d : Domain) (gs : List ℕ) (b : CostBound) (t : Tree) (known : KnownLen) → turn d gs b t known .tickets ≤ 10
 unfolding turn
-turn-few d gs b t known = turnBy-few d gs b t known (lookup d t gs known)
+turn-few d gs b t known = turnBy-few d gs b t (lookup d t gs known)
 
 round-few : (d : Domain) (i : ℕ) (w : Walk) → round d i w .tickets ≤ 10 + w .tickets
 unfolding round

@@ -11,10 +11,9 @@ use native.Mathlib.Numerals.{add-one}
 use lib.ListN.{getD, take}
 use Rattle.model.specs.declared.Search.{Search}
 use Rattle.model.specs.Graph.{Domain}
-use Rattle.model.specs.Sound.{tree}
-use Rattle.model.specs.Search.{entry, goals, withExhausted, turn, bound, Walk, round, rounds, walk}
+use Rattle.model.specs.Search.{entry, goals, withExhausted, Walk, round, rounds, walk}
 use Rattle.model.specs.Calls.{Cache, withTrees}
-use Rattle.model.proofs.Keeps.{slot-kept, round-count}
+use Rattle.model.proofs.Recorded.{round-count, round-goals, round-slots}
 use Rattle.layout.specs.Layout.{slotAt, treeWords}
 use Rattle.layout.specs.Read.{readCache}
 use Rattle.sound.specs.Facts.{SoundWords}
@@ -41,18 +40,10 @@ round-tickets : (d : Domain) (i : ℕ) (w : Walk) → round d i w .tickets ≡ w
 unfolding round
 round-tickets d i w = omega arith
 
-slots-kept : (d : Domain) (i : ℕ) (w : Walk) (j : ℕ) → entry (round d i w .search) j .tree ≡ entry (w .search) j .tree
-unfolding round
-slots-kept d i w j =
-    let s = w .search in
-    let e = entry s i in
-    let b = bound d (w .trees) s in
-    slot-kept d b s i (turn d (goals s) b (tree (w .trees) (e .tree)) (e .«last_known_closed_len»)) j
-
 pub rounds-slots : (d : Domain) (k i : ℕ) (w : Walk) (j : ℕ) → entry (rounds d k i w .search) j .tree ≡ entry (w .search) j .tree
 unfolding rounds
 rounds-slots d zero i w j = refl
-rounds-slots d (suc k) i w j = rounds-slots d k (suc i) (round d i w) j ∙ slots-kept d i w j
+rounds-slots d (suc k) i w j = rounds-slots d k (suc i) (round d i w) j ∙ round-slots d i w j
 
 pub rounds-count : (d : Domain) (k i : ℕ) (w : Walk) → rounds d k i w .search .«tree_count» ≡ w .search .«tree_count»
 unfolding rounds
@@ -188,6 +179,6 @@ module _ {ws : List ℕ} {s : Search} {words : List ℕ} {next : Search} {k i : 
             within = omega arith;
             few = omega (arith, w .few, t .few);
             count = ap (λ (x : Search). x .«tree_count») (t .search) ∙ round-count (readCache words .domain) i from ∙ w .count;
-            slots = λ j. ap (λ (x : Search). entry x j .tree) (t .search) ∙ slots-kept (readCache words .domain) i from j ∙ w .slots j;
-            goals-stay = ap goals (t .search) ∙ w .goals-stay;
+            slots = λ j. ap (λ (x : Search). entry x j .tree) (t .search) ∙ round-slots (readCache words .domain) i from j ∙ w .slots j;
+            goals-stay = ap goals (t .search) ∙ round-goals (readCache words .domain) i from ∙ w .goals-stay;
           }

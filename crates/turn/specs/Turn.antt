@@ -1,7 +1,7 @@
 -- The turns of a search's entries in the words of a cache: what the code promises.
 -- Assumes nothing.
 use mathlib.Core.Path.{_≡_}
-use mathlib.Core.Bool.{Bool, false}
+use mathlib.Core.Bool.{Bool, true, false}
 use mathlib.Core.List.{List}
 use Prim.Native.Nat.{ℕ, _+_, _<_, _≤_}
 use lib.Dec.{ltb}
@@ -19,7 +19,7 @@ use Rattle.model.specs.declared.Search.{Search}
 use Rattle.model.specs.Graph.{Domain}
 use Rattle.model.specs.Tree.{Tree, Node, evaluation, least}
 use Rattle.model.specs.Sound.{tree}
-use Rattle.model.specs.Search.{entry, closedCount, lookup, under, hold, bestAfter, Turn, turn, Walk, walk}
+use Rattle.model.specs.Search.{entry, closedCount, lookup, under, cheaper, Turn, turn, Walk, walk}
 use Rattle.model.specs.Calls.{withTrees}
 use Rattle.layout.specs.Layout.{slotAt, treeWords}
 use Rattle.layout.specs.Read.{readCache}
@@ -31,6 +31,7 @@ use Rattle.memory.specs.Memory.{FitsWords, HasNode}
 use Rattle.turn.specs.declared.Turned.{Turned}
 use Rattle.turn.specs.declared.Outcome.{Outcome}
 use Rattle.turn.specs.declared.Found.{Found}
+use Rattle.turn.specs.declared.Found.the-variants.{Nothing, Replaces}
 
 -- ---- "Otherwise, for each entry in order"
 
@@ -127,13 +128,6 @@ pub record CanRecord (ws : List ℕ) (e : TreeMemory) (o : Solution) : Type 0 wh
   pub held : (n : ℕ) → e .solution ≡ At n → n < length (treeAt ws (e .tree) .nodes)
   pub find : (n : ℕ) → o ≡ At n → n < length (treeAt ws (e .tree) .nodes)
 
--- the solution that entry i holds after the find o, where it was e, and the best, where that was x
-abbrev pub foundOf : List ℕ → TreeMemory → Solution → CostBound → BestSolution → ℕ → Found
-foundOf ws e o b x i =
-    let d = readCache ws .domain in
-    let ns = treeAt ws (e .tree) .nodes in
-    record { solution = hold d ns (e .solution) o; best = bestAfter d ns b (e .solution) x i o }
-
 pub record CanCompare (ws : List ℕ) (i : ℕ) (held : Solution) : Type 0 where
   pub used : InUse ws i
   pub node : (n : ℕ) → held ≡ At n → n < length (treeAt ws i .nodes)
@@ -142,3 +136,15 @@ pub record CanCompare (ws : List ℕ) (i : ℕ) (held : Solution) : Type 0 where
 abbrev pub dearerIn : List Node → ℕ → Solution → Bool
 dearerIn ns k Unsolved = false
 dearerIn ns k (At h) = ltb (evaluation ns h) k
+
+abbrev pub foundUnless : Bool → ℕ → Bool → Found
+foundUnless true n x = Nothing
+foundUnless false n x = Replaces n x
+
+-- what the find comes to, where h was held and b is the bound
+abbrev pub foundIn : List Node → Solution → CostBound → Solution → Found
+foundIn ns h b Unsolved = Nothing
+foundIn ns h b (At n) = foundUnless (dearerIn ns (evaluation ns n) h) n (cheaper (evaluation ns n) b)
+
+abbrev pub foundOf : List ℕ → TreeMemory → Solution → CostBound → Found
+foundOf ws e o b = foundIn (treeAt ws (e .tree) .nodes) (e .solution) b o

@@ -1,5 +1,5 @@
-// The turns of a search's entries, one after the other: the Rust's loop over `memory.trees` in `step`. Only `step_trees` is handed the
-// record, for each function that it is handed to copies it.
+// The turns of a search's entries, one after the other: the Rust's loop over `memory.trees` in `step`. Only `step_trees` and the record's
+// methods are handed the record, for each function that it is handed to copies it.
 use grow::Growth;
 use grow::slot_of;
 use memory::solution_cost;
@@ -13,7 +13,7 @@ use tree::partial_keyed_closed_set::cheapest_goal;
 use tree::partial_keyed_closed_set::closed_keys_len;
 ghost use mathlib.Core.Path.{_≡_};
 ghost use Rattle.model.specs.Tree.{least};
-ghost use Rattle.model.specs.Search.{remembers, grown, under, cheaper, exhaustedUnless};
+ghost use Rattle.model.specs.Search.{remembers, grown, under, cheaper};
 ghost use Rattle.tree.specs.Tree.{treeOf, Formed};
 ghost use Rattle.grow.specs.Grow.{InUse, growthOf};
 ghost use Rattle.turn.specs.Turn.{CanStep, Steps, treeAt, bestEntry, CanBound, boundIn, CanTurn, turnOf, Turns, LooksUp, CanLookUp, looksUp, Remembers, CanRecord, foundOf, CanCompare, dearerIn};
@@ -24,8 +24,8 @@ pub struct Turned {
     pub tickets: usize,
 }
 
-// What an entry's turn came to: the closed count that it is to remember, its find, whether its queue keeps the search unfinished, and
-// the tickets taken.
+// What an entry's turn came to: the closed count to remember, if there is one, its find, whether its queue keeps the search unfinished,
+// and the tickets taken.
 pub struct Outcome {
     pub known: KnownLen,
     pub find: Solution,
@@ -33,10 +33,10 @@ pub struct Outcome {
     pub tickets: usize,
 }
 
-// The solution that an entry holds after its turn, and the best.
-pub struct Found {
-    pub solution: Solution,
-    pub best: BestSolution,
+// What an entry's find comes to: there is nothing to record, or it replaces what the entry holds, and may be the best.
+pub enum Found {
+    Nothing,
+    Replaces { node: u32, is_best: bool },
 }
 
 // The turn of each entry in order. The search is finished unless a queue says otherwise.
@@ -56,17 +56,17 @@ pub fn step_trees(words: &mut [u32], search: Search) -> Turned
         let holder = next.trees[best_entry(best)];
         let bound = cost_bound(words, best, holder.tree);
         let r = turn(words, memory, goals, bound);
-        let find = r.find;
-        let found = record_find(words, memory, find, bound, best, i);
         let known = r.known;
-        let solution = found.solution;
-        let after = TreeMemory {
-            tree: memory.tree,
-            last_known_closed_len: known,
-            solution,
-        };
-        let better = found.best;
-        next = next.with_turn(i, after, better, exhausted_unless(r.more, next.exhausted));
+        if let KnownLen::Len(len) = known {
+            next = next.with_known_len(i, len);
+        }
+        if r.more {
+            next = next.with_exhausted(false);
+        }
+        let find = r.find;
+        if let Found::Replaces { node, is_best } = judge(words, memory, find, bound) {
+            next = next.with_find(i, node, is_best);
+        }
         tickets += r.tickets;
         i += 1;
     }
@@ -97,16 +97,7 @@ fn cost_bound(words: &[u32], best: BestSolution, slot: usize) -> CostBound
     }
 }
 
-fn exhausted_unless(more: bool, exhausted: bool) -> bool
-    ensures { λ r. ⌜ r ≡ exhaustedUnless more exhausted ⌝ }
-{
-    if more {
-        return false;
-    }
-    exhausted
-}
-
-// An entry's turn: a closed goal is looked up, and with no find the tree is grown. After a find by lookup nothing new is remembered.
+// An entry's turn: a closed goal is looked up, and with no find the tree is grown. After a find by lookup nothing is remembered.
 fn turn(words: &mut [u32], memory: TreeMemory, goals: &[u32], bound: CostBound) -> Outcome
     requires { ⌜ CanTurn (now words) (memory .tree) (now goals) ⌝ }
     ensures { λ r. ⌜ Turns (now (words .entry)) (memory .tree) (turnOf (now (words .entry)) memory (now (goals .entry)) bound) r (now (words .exit)) ⌝ }
@@ -116,7 +107,7 @@ fn turn(words: &mut [u32], memory: TreeMemory, goals: &[u32], bound: CostBound) 
     match find {
         Solution::Unsolved => grow_tree(words, memory.tree, goals, bound),
         Solution::At(_) => Outcome {
-            known,
+            known: KnownLen::Never,
             find,
             more: false,
             tickets: 0,
@@ -193,40 +184,21 @@ fn has_ticket_under(tree: &[u32], edges: usize, bound: CostBound) -> bool
 }
 
 // A find replaces the entry's solution unless dearer, and is the best only if strictly cheaper.
-fn record_find(
-    words: &[u32],
-    memory: TreeMemory,
-    find: Solution,
-    bound: CostBound,
-    best: BestSolution,
-    entry: usize,
-) -> Found
+fn judge(words: &[u32], memory: TreeMemory, find: Solution, bound: CostBound) -> Found
     requires { ⌜ CanRecord (now words) memory find ⌝ }
-    ensures { λ r. ⌜ r ≡ foundOf (now (words .entry)) memory find bound best entry ⌝ }
+    ensures { λ r. ⌜ r ≡ foundOf (now (words .entry)) memory find bound ⌝ }
 {
-    let held = memory.solution;
     let Solution::At(node) = find else {
-        return Found {
-            solution: held,
-            best,
-        };
+        return Found::Nothing;
     };
+    let held = memory.solution;
     let cost = solution_cost(words, memory.tree, node);
     if is_dearer(words, memory.tree, cost, held) {
-        return Found {
-            solution: held,
-            best,
-        };
+        return Found::Nothing;
     }
-    if is_cheaper(cost, bound) {
-        return Found {
-            solution: find,
-            best: BestSolution::Best { entry, node },
-        };
-    }
-    Found {
-        solution: find,
-        best,
+    Found::Replaces {
+        node,
+        is_best: is_cheaper(cost, bound),
     }
 }
 
