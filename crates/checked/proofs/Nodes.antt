@@ -9,7 +9,7 @@ use borrow.Rule.Slice.PartMut.{midOf}
 use Rattle.model.specs.Tree.{Node, Tree, node}
 use Rattle.model.specs.Sound.{Sound, tree}
 use Rattle.model.specs.Path.{movesOf}
-use Rattle.layout.specs.Layout.{nodeAt, closedAt as closedWordsAt, NodeWord}
+use Rattle.layout.specs.Layout.{nodeAt, closedWordsAt, NodeWord}
 use Rattle.layout.specs.Read.{treeIn, domainOf, readCache}
 use Rattle.sound.proofs.Facts.{tree-read}
 use Rattle.grow.specs.declared.Slot.{Slot}

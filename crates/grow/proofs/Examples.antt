@@ -18,7 +18,7 @@ use Rattle.layout.proofs.Trees.{tree-nodes}
 use Rattle.layout.proofs.Examples.{sample}
 use Rattle.layout.proofs.Places.{part-at}
 use Rattle.sound.proofs.Facts.{tree-read}
-use Rattle.grow.specs.declared.Growth.{Growth as Grown}
+use Rattle.grow.specs.declared.Grown.{Grown}
 use Rattle.grow.specs.Grow.{growthOf, Grew}
 
 -- tickets taken, nodes used then, and how it ended

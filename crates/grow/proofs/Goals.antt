@@ -13,7 +13,7 @@ use Rattle.model.specs.declared.CostBound.{CostBound}
 use Rattle.model.specs.Lists.{mem}
 use Rattle.model.specs.Tree.{above, goingOn}
 use Rattle.model.proofs.Lists.{mem-nil, mem-head}
-use Rattle.grow.specs.declared.Going.the-variants.{On, Found, Over}
+use Rattle.grow.specs.declared.Next.the-variants.{On, Found, Over}
 use Rattle.grow.specs.Grow.{GoesOn}
 
 -- v is among the goals exactly if it is among those from place i on

@@ -14,17 +14,17 @@ use Rattle.model.specs.Tree.{Tree, Going, on, least, popped, ticket, grow}
 use Rattle.model.specs.Sound.{Sound}
 use Rattle.model.specs.Search.{findOf}
 use Rattle.model.proofs.Later as later
-use Rattle.layout.specs.Layout.{closedAt as closedWordsAt}
+use Rattle.layout.specs.Layout.{closedWordsAt}
 use Rattle.layout.specs.Read.{readCache}
 use Rattle.layout.proofs.Trees.{tree-nodes}
 use Rattle.queue.specs.declared.Popped.{Popped}
 use Rattle.queue.specs.declared.Popped.the-variants.{Ticket, Empty}
 use Rattle.tree.specs.Tree.{treeOf, Formed, Pops, PopIs}
 use Rattle.sound.proofs.Slots.{tree-in-at}
-use Rattle.grow.specs.declared.Going.{Going as Next}
-use Rattle.grow.specs.declared.Going.the-variants as next
+use Rattle.grow.specs.declared.Next.{Next}
+use Rattle.grow.specs.declared.Next.the-variants as next
 use Rattle.grow.specs.declared.Slot.{Slot}
-use Rattle.grow.specs.Grow.{InUse, growthOf, Grew, slotOf, treeAt, domainAt, Ready, Holds, CanVisit, goingOf, Visits}
+use Rattle.grow.specs.Grow.{InUse, growthOf, Grew, slotOf, treeAt, domainAt, Ready, SlotHolds, CanVisit, goingOf, Visits}
 use Rattle.grow.proofs.Slots.{mid-slot, tree-lent, part-size, lent-again, put-again, put-holds, holds-trans, holds-refl, ready-after, domain-after}
 use Rattle.grow.proofs.Tickets.{stepped, ticket-is, ticket-none, ticket-sound, grow-over, grow-found}
 use Rattle.grow.proofs.Room.{can-visit}
@@ -39,7 +39,7 @@ module _ {ws : List ℕ} {i : ℕ} (gs : List ℕ) (b : CostBound) (can : InUse 
       ap (λ (t : Tree). grow (domainAt (slotOf ws i) ws) gs b 10 (record { tree = t; tickets = 0; going = on }))
       (tree-in-at (getD ws 1 0) (getD ws 2 0) ws (can .slot))
 
-  grew : {left : List ℕ} {k : ℕ} {g : Going} {u : Tree} → growthOf ws i gs b ≡ record { tree = u; tickets = k; going = g } → Holds (slotOf ws i) ws left u
+  grew : {left : List ℕ} {k : ℕ} {g : Going} {u : Tree} → growthOf ws i gs b ≡ record { tree = u; tickets = k; going = g } → SlotHolds (slotOf ws i) ws left u
       → Grew ws i gs b (record { tickets = k; solution = findOf g }) left
   grew {left} {k} {g} {u} e h =
       let d : Domain = domainAt (slotOf ws i) ws in
@@ -61,7 +61,7 @@ pub record Growing (ws : List ℕ) (i : ℕ) (gs : List ℕ) (b : CostBound) (s 
   pub can : InUse ws i
   pub slot : s ≡ slotOf ws i
   pub ready : Ready s words
-  pub holds : Holds s ws words (treeAt s words)
+  pub holds : SlotHolds s ws words (treeAt s words)
   pub sound : Sound (domainAt s ws) (treeAt s words)
   pub count : left + tickets ≡ 10
   pub grows : growthOf ws i gs b ≡ grow (domainAt s ws) gs b left (record { tree = treeAt s words; tickets = tickets; going = on })
@@ -90,9 +90,9 @@ module _ {ws : List ℕ} {i : ℕ} {gs : List ℕ} {b : CostBound} {s : Slot} {w
   first = subst (λ (x : Slot). Ready x ws) (sym (g .slot)) (slot-ready ws i (g .can .sound) (g .can .slot))
 
   -- the growth is known, and the slot holds its tree
-  finished : {after : List ℕ} {k : ℕ} {z : Going} {u : Tree} → growthOf ws i gs b ≡ record { tree = u; tickets = k; going = z } → Holds s ws after u
+  finished : {after : List ℕ} {k : ℕ} {z : Going} {u : Tree} → growthOf ws i gs b ≡ record { tree = u; tickets = k; going = z } → SlotHolds s ws after u
       → Grew ws i gs b (record { tickets = k; solution = findOf z }) after
-  finished {after} {k} {z} {u} e h = grew gs b (g .can) e (subst (λ (x : Slot). Holds x ws after u) (g .slot) h)
+  finished {after} {k} {z} {u} e h = grew gs b (g .can) e (subst (λ (x : Slot). SlotHolds x ws after u) (g .slot) h)
 
   pub growing-all : left ≤ 0 → Grew ws i gs b (record { tickets = tickets; solution = Unsolved }) words
   unfolding grow
@@ -150,8 +150,8 @@ module _ {ws : List ℕ} {i : ℕ} {gs : List ℕ} {b : CostBound} {s : Slot} {w
           ap (putMid (s .at) (s .end - s .at) mid) (put ∙ ap (λ (x : List ℕ). set x 2 m) (lent-again (g .ready) ys same))
           ∙ put-again (g .ready) ys same us
 
-      taken : Holds s words stored (popped t k)
-      taken = subst (λ (x : List ℕ). Holds s words x (popped t k)) (sym stored-is) (put-holds (g .ready) us (length-set ys 2 m ∙ same) (pops .formed) left-tree)
+      taken : SlotHolds s words stored (popped t k)
+      taken = subst (λ (x : List ℕ). SlotHolds s words x (popped t k)) (sym stored-is) (put-holds (g .ready) us (length-set ys 2 m ∙ same) (pops .formed) left-tree)
 
       still : domainAt s stored ≡ d
       still = domain-after (g .ready) taken ∙ domain-after first (g .holds)
@@ -164,7 +164,7 @@ module _ {ws : List ℕ} {i : ℕ} {gs : List ℕ} {b : CostBound} {s : Slot} {w
       can-visit-first = can-visit t k (ready-after (g .ready) taken) (taken .tree) (subst (λ (x : Domain). Sound x t) (sym still) (g .sound)) in-nodes
 
       module _ {after : List ℕ} {v : Next} (w : Visits s stored after k gs b v) where
-        visited : Holds s ws after (stepped d gs b t tickets k .tree)
+        visited : SlotHolds s ws after (stepped d gs b t tickets k .tree)
         visited = rw (taken .tree, still) at (holds-trans (g .holds) (holds-trans taken (w .holds)))
 
         now : growthOf ws i gs b ≡ grow d gs b (left - 1) (record { tree = treeAt s after; tickets = tickets + 1; going = goingOf k v })
@@ -174,7 +174,7 @@ module _ {ws : List ℕ} {i : ℕ} {gs : List ℕ} {b : CostBound} {s : Slot} {w
             next-is
             ∙ ap (grow d gs b (left - 1)) (ticket-is d gs b t tickets k least-is ∙ (λ x. record { tree = sym (visited .tree) x; tickets = one x; going = sym going x }))
 
-        holds-now : Holds s ws after (treeAt s after)
+        holds-now : SlotHolds s ws after (treeAt s after)
         holds-now = record { outside = visited .outside; formed = visited .formed; tree = refl }
 
         pub growing-on : v ≡ next.On → Growing ws i gs b s after (left - 1) (tickets + 1)

@@ -18,7 +18,7 @@ use Rattle.tree.specs.Tree.{Formed}
 use Rattle.tree.proofs.Same.{part-same}
 use Rattle.sound.specs.Facts.{SoundIn, SoundWords}
 use Rattle.sound.proofs.Slots.{slot-before, tree-in-at, trees-in-length}
-use Rattle.grow.specs.Grow.{slotOf, treeAt, Ready, Holds}
+use Rattle.grow.specs.Grow.{slotOf, treeAt, Ready, SlotHolds}
 use Rattle.grow.proofs.Slots.{ready-after, domain-after}
 
 pub slot-ready : (ws : List ℕ) (i : ℕ) → SoundWords ws → i < getD ws 4 0 → Ready (slotOf ws i) ws
@@ -32,7 +32,7 @@ slot-ready ws i ok used =
       formed = ok .formed i used;
     }
 
-module _ (ws left : List ℕ) (i : ℕ) (u : Tree) (ok : SoundWords ws) (used : i < getD ws 4 0) (h : Holds (slotOf ws i) ws left u) where
+module _ (ws left : List ℕ) (i : ℕ) (u : Tree) (ok : SoundWords ws) (used : i < getD ws 4 0) (h : SlotHolds (slotOf ws i) ws left u) where
   abbrev m : ℕ
   m = getD ws 1 0
 

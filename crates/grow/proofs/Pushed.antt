@@ -11,10 +11,10 @@ use Rattle.model.specs.Tree.{pushNode, child}
 use Rattle.layout.specs.Layout.{edgeAt}
 use Rattle.layout.specs.Read.{graphIn}
 use Rattle.layout.proofs.Edges.{edge-count-in, vertex-count-in, to-word, cost-word}
-use Rattle.tree.specs.Tree.{CanPushNode, treeOf, nodeOf, Holds as Left}
+use Rattle.tree.specs.Tree.{CanPushNode, treeOf, nodeOf, HoldsTree}
 use Rattle.tree.specs.declared.Node.{Node as NodeWords}
 use Rattle.grow.specs.declared.Slot.{Slot}
-use Rattle.grow.specs.Grow.{treeAt, domainAt, Holds, CanPushChoice}
+use Rattle.grow.specs.Grow.{treeAt, domainAt, SlotHolds, CanPushChoice}
 use Rattle.grow.proofs.Slots.{slot-length, mid-slot, tree-lent, put-holds}
 
 -- w: the edge's number as a place
@@ -60,7 +60,7 @@ module _ {s : Slot} {ws : List ℕ} {k e w : ℕ} (h : CanPushChoice s ws k e) (
 
       -- ys: the words that came back
       pub pushed : {ys : List ℕ} → length ys ≡ length (midOf (s .at) (s .end - s .at) ws)
-          → Left (s .edges) ys (pushNode (treeOf (s .edges) (midOf (s .at) (s .end - s .at) ws)) (nodeOf new))
-          → Holds s ws (putMid (s .at) (s .end - s .at) ws ys) (pushNode (treeAt s ws) (child (domainAt s ws) n k e))
+          → HoldsTree (s .edges) ys (pushNode (treeOf (s .edges) (midOf (s .at) (s .end - s .at) ws)) (nodeOf new))
+          → SlotHolds s ws (putMid (s .at) (s .end - s .at) ws ys) (pushNode (treeAt s ws) (child (domainAt s ws) n k e))
       pushed {ys} len left =
           put-holds (h .ready) ys len (left .formed) (left .tree ∙ ap₂ pushNode (tree-lent (h .ready)) child-is)

@@ -19,7 +19,7 @@ use Rattle.edges.specs.declared.Placed.{Placed}
 use Rattle.edges.specs.declared.NextEdge.the-variants.{Edge, End}
 use Rattle.edges.proofs.Found.{Found, edge-found, end-found}
 use Rattle.grow.specs.declared.Slot.{Slot}
-use Rattle.grow.specs.Grow.{wordsIn, treeAt, domainAt, Ready, Holds, CanPushChoice, CanPushChoices}
+use Rattle.grow.specs.Grow.{wordsIn, treeAt, domainAt, Ready, SlotHolds, CanPushChoice, CanPushChoices}
 use Rattle.grow.proofs.Slots.{holds-refl, holds-trans, ready-after, domain-after}
 use Rattle.grow.proofs.Choices.{edge-below, next-place, choice-at, places-fit, push-next, push-few}
 
@@ -32,7 +32,7 @@ pub record Pushing (s : Slot) (ws : List ℕ) (n v k first last : ℕ) (left : L
   pub above : first ≤ place
   pub within : place ≤ last
   pub used : getD (wordsIn s left) 1 0 ≤ getD (wordsIn s ws) 1 0 + (place - first)
-  pub holds : Holds s ws left (pushAll (domainAt s ws) n k (treeAt s ws) (take (place - first) (choices (domainAt s ws) v)))
+  pub holds : SlotHolds s ws left (pushAll (domainAt s ws) n k (treeAt s ws) (take (place - first) (choices (domainAt s ws) v)))
 
 module _ {s : Slot} {ws : List ℕ} {v k : ℕ} (h : CanPushChoices s ws v k) where
   -- the first places of v and of the vertex after it
@@ -92,10 +92,10 @@ module _ {s : Slot} {ws left : List ℕ} {n v k first last place : ℕ} (i : Pus
   last-fits = omega (arith, i .starts, i .ends, places-fit d v vertex-in (i .can .ready .held .accepted), edge-count-in (s .vertices) (s .edges) ws)
 
   module _ {r : Placed} (said : r ≡ nextAt ns place last) where
-    pub pushing-end : r .edge ≡ End → Holds s ws left (pushAll d n k (treeAt s ws) (choices d v))
+    pub pushing-end : r .edge ≡ End → SlotHolds s ws left (pushAll d n k (treeAt s ws) (choices d v))
     pushing-end is =
         let stop : last ≤ place = end-found ns place last said (omega (arith, numbers-count, last-fits)) is in
-        subst (λ (cs : List ℕ). Holds s ws left (pushAll d n k (treeAt s ws) cs))
+        subst (λ (cs : List ℕ). SlotHolds s ws left (pushAll d n k (treeAt s ws) cs))
         (take-all (place - first) (choices d v) (omega (arith, i .ends, i .within)))
         (i .holds)
 
@@ -145,7 +145,7 @@ module _ {s : Slot} {ws left : List ℕ} {n v k first last place : ℕ} (i : Pus
       abbrev new : Node
       new = child (domainAt s left) n k e
 
-      module _ {next : List ℕ} (g : Holds s left next (pushNode (treeAt s left) new)) where
+      module _ {next : List ℕ} (g : SlotHolds s left next (pushNode (treeAt s left) new)) where
         tree-is : pushNode (treeAt s left) new ≡ pushAll d n k (treeAt s ws) (take (after - first) (choices d v))
         tree-is =
             let past : j + 1 ≡ after - first = omega (arith, i .above, found .after) in
@@ -172,5 +172,5 @@ module _ {s : Slot} {ws left : List ℕ} {n v k first last place : ℕ} (i : Pus
                 tree-nodes (s .vertices) (s .edges) (wordsIn s next),
                 ap (λ (t : Tree). length (t .nodes)) (g .tree),
               );
-          holds = subst (Holds s ws next) tree-is (holds-trans (i .holds) g);
+          holds = subst (SlotHolds s ws next) tree-is (holds-trans (i .holds) g);
         }

@@ -17,7 +17,7 @@ use Rattle.tree.specs.Tree.{Formed, treeOf}
 use Rattle.tree.proofs.Same.{tree-of}
 use Rattle.sound.proofs.Held.{domain-same, held-same}
 use Rattle.grow.specs.declared.Slot.{Slot}
-use Rattle.grow.specs.Grow.{SlotIs, wordsIn, treeAt, domainAt, Ready, Outside, Holds}
+use Rattle.grow.specs.Grow.{SlotIs, wordsIn, treeAt, domainAt, Ready, Outside, SlotHolds}
 
 -- ---- the words of a slot
 
@@ -73,7 +73,7 @@ module _ {s : Slot} {ws : List ℕ} (r : Ready s ws) (ys : List ℕ) (same : len
       ∙ ap₂ (λ (x y : List ℕ). x ++ (zs ++ y)) (take-put (s .at) (s .end - s .at) ws ys (omega (arith, ae, r .fits))) (drop-put (s .at) (s .end) ws ys ae (r .fits) n)
       ∙ sym (put-mid ws zs (s .at) (s .end) ae)
 
-  pub put-holds : {u : Tree} → Formed (s .edges) ys → treeOf (s .edges) ys ≡ u → Holds s ws back u
+  pub put-holds : {u : Tree} → Formed (s .edges) ys → treeOf (s .edges) ys ≡ u → SlotHolds s ws back u
   put-holds formed tree =
       let words : wordsIn s back ≡ ys = sym (mid-slot (r .slot) back) ∙ lent-again in
       record {
@@ -93,15 +93,15 @@ module _ {s : Slot} {ws : List ℕ} (r : Ready s ws) (ys : List ℕ) (same : len
 outside-trans : {m l i : ℕ} {ws mid left : List ℕ} → Outside m l i ws mid → Outside m l i mid left → Outside m l i ws left
 outside-trans a b = record { len = b .len ∙ a .len; word = λ j h. b .word j h ∙ a .word j h }
 
-pub holds-trans : {s : Slot} {ws mid left : List ℕ} {u v : Tree} → Holds s ws mid u → Holds s mid left v → Holds s ws left v
+pub holds-trans : {s : Slot} {ws mid left : List ℕ} {u v : Tree} → SlotHolds s ws mid u → SlotHolds s mid left v → SlotHolds s ws left v
 holds-trans a b = record { outside = outside-trans (a .outside) (b .outside); formed = b .formed; tree = b .tree }
 
-pub holds-refl : {s : Slot} {ws : List ℕ} → Ready s ws → Holds s ws ws (treeAt s ws)
+pub holds-refl : {s : Slot} {ws : List ℕ} → Ready s ws → SlotHolds s ws ws (treeAt s ws)
 holds-refl r = record { outside = record { len = refl; word = λ j h. refl }; formed = r .formed; tree = refl }
 
 -- ---- the graph's words stand before all slots
 
-module _ {s : Slot} {ws left : List ℕ} {u : Tree} (r : Ready s ws) (h : Holds s ws left u) where
+module _ {s : Slot} {ws left : List ℕ} {u : Tree} (r : Ready s ws) (h : SlotHolds s ws left u) where
   graph-stays : (j : ℕ) → j ≢ 4 → j < slotsAt (s .vertices) (s .edges) → getD left j 0 ≡ getD ws j 0
   graph-stays j ne b = h .outside .word j (inl (omega arith))
 

@@ -18,9 +18,9 @@ use Rattle.tree.specs.Tree.{treeOf, CanClose, Closes, CloseIs}
 use Rattle.tree.specs.declared.partial_keyed_closed_set.CloseResult.{CloseResult}
 use Rattle.tree.specs.declared.partial_keyed_closed_set.CloseResult.the-variants.{Accepted, Rejected}
 use Rattle.grow.specs.declared.Slot.{Slot}
-use Rattle.grow.specs.declared.Going.{Going}
-use Rattle.grow.specs.declared.Going.the-variants.{On}
-use Rattle.grow.specs.Grow.{isClosed, wordsIn, treeAt, domainAt, Holds, CanPushChoices, CanVisit, visitedIf, goingIf, GoesOn, Visits}
+use Rattle.grow.specs.declared.Next.{Next}
+use Rattle.grow.specs.declared.Next.the-variants.{On}
+use Rattle.grow.specs.Grow.{isClosed, wordsIn, treeAt, domainAt, SlotHolds, CanPushChoices, CanVisit, visitedIf, goingIf, GoesOn, Visits}
 use Rattle.grow.proofs.Slots.{slot-length, mid-slot, tree-lent, put-holds, holds-refl, holds-trans, ready-after, domain-after}
 
 module _ {s : Slot} {ws : List ℕ} {n : ℕ} (h : CanVisit s ws n) where
@@ -68,7 +68,7 @@ module _ {s : Slot} {ws : List ℕ} {n : ℕ} (h : CanVisit s ws n) where
             let same : back ≡ ws = ap (putMid (s .at) (s .end - s .at) ws) (c .1) ∙ put-same (s .at) (s .end - s .at) ws in
             let is : isClosed tree n ≡ true = ap not (ne-eqb (closedAt (tree .closed) (it .vertex)) 0 (omega (arith, c .0, word-is))) in
             subst (λ (left : List ℕ). Visits s ws left n gs b On) (sym same) (record {
-              holds = subst (λ (x : Bool). Holds s ws ws (visitedIf x (domainAt s ws) tree n)) (sym is) (holds-refl (h .ready));
+              holds = subst (λ (x : Bool). SlotHolds s ws ws (visitedIf x (domainAt s ws) tree n)) (sym is) (holds-refl (h .ready));
               going = sym (ap (λ (x : Bool). goingIf x gs b tree n) is);
             })
 
@@ -85,7 +85,7 @@ module _ {s : Slot} {ws : List ℕ} {n : ℕ} (h : CanVisit s ws n) where
           is-open : isClosed tree n ≡ false
           is-open = ap not (eq-eqb (closedAt (tree .closed) (it .vertex)) 0 (sym word-is ∙ closes .before))
 
-          closed : Holds s ws back (close tree (it .vertex) n)
+          closed : SlotHolds s ws back (close tree (it .vertex) n)
           closed =
               put-holds (h .ready) ys len (closes .formed)
               (closes .tree ∙ ap₂ (λ (t : Tree) (x : ℕ). close t x n) (tree-lent (h .ready)) (wide ∙ vertex-is))
@@ -108,12 +108,12 @@ module _ {s : Slot} {ws : List ℕ} {n : ℕ} (h : CanVisit s ws n) where
             room = rw (used, domain, vertex-is) (h .room is-open);
           }
 
-          pub visit-open : (left : List ℕ) (gs : List ℕ) (b : CostBound) (g : Going)
-              → Holds s back left (pushAll (domainAt s back) n k (treeAt s back) (choices (domainAt s back) v)) → GoesOn gs b v k g
+          pub visit-open : (left : List ℕ) (gs : List ℕ) (b : CostBound) (g : Next)
+              → SlotHolds s back left (pushAll (domainAt s back) n k (treeAt s back) (choices (domainAt s back) v)) → GoesOn gs b v k g
               → Visits s ws left n gs b g
           unfolding expanded
           visit-open left gs b g held goes = record {
-            holds = subst (Holds s ws left) grown (holds-trans closed held);
+            holds = subst (SlotHolds s ws left) grown (holds-trans closed held);
             going =
                 goes n
                 ∙ ap₂ (λ (x y : ℕ). goingOn (mem x gs) (above y b) n) vertex-is cost-is

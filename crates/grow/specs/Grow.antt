@@ -21,9 +21,9 @@ use Rattle.layout.specs.Sound.{slotWords}
 use Rattle.layout.specs.Held.{Held}
 use Rattle.tree.specs.Tree.{Formed}
 use Rattle.sound.specs.Facts.{SoundWords}
-use Rattle.grow.specs.declared.Growth.{Growth as Grown}
-use Rattle.grow.specs.declared.Going.{Going as Next}
-use Rattle.grow.specs.declared.Going.the-variants as next
+use Rattle.grow.specs.declared.Grown.{Grown}
+use Rattle.grow.specs.declared.Next.{Next}
+use Rattle.grow.specs.declared.Next.the-variants as next
 use Rattle.grow.specs.declared.Slot.{Slot}
 
 -- ---- the promise of `grow`
@@ -89,7 +89,7 @@ pub record Ready (s : Slot) (ws : List ℕ) : Type 0 where
   pub formed : Formed (s .edges) (wordsIn s ws)
 
 -- the slot holds the tree u, and all other words are as they were
-pub record Holds (s : Slot) (ws left : List ℕ) (u : Tree) : Type 0 where
+pub record SlotHolds (s : Slot) (ws left : List ℕ) (u : Tree) : Type 0 where
   pub outside : Outside (s .vertices) (s .edges) (s .number) ws left
   pub formed : Formed (s .edges) (wordsIn s left)
   pub tree : treeAt s left ≡ u
@@ -137,5 +137,5 @@ abbrev pub GoesOn : List ℕ → CostBound → ℕ → ℕ → Next → Type 0
 GoesOn gs b v k r = (n : ℕ) → goingOf n r ≡ goingOn (mem v gs) (above k b) n
 
 pub record Visits (s : Slot) (ws left : List ℕ) (n : ℕ) (gs : List ℕ) (b : CostBound) (r : Next) : Type 0 where
-  pub holds : Holds s ws left (visitedIf (isClosed (treeAt s ws) n) (domainAt s ws) (treeAt s ws) n)
+  pub holds : SlotHolds s ws left (visitedIf (isClosed (treeAt s ws) n) (domainAt s ws) (treeAt s ws) n)
   pub going : goingOf n r ≡ goingIf (isClosed (treeAt s ws) n) gs b (treeAt s ws) n

@@ -16,13 +16,13 @@ ghost use Rattle.model.specs.Lists.{mem};
 ghost use Rattle.model.specs.Graph.{choices};
 ghost use Rattle.model.specs.Tree.{pushAll, pushNode, child, above};
 ghost use Rattle.layout.specs.Layout.{Sized};
-ghost use Rattle.grow.specs.Grow.{InUse, Grew, slotOf, treeAt, domainAt, Holds, CanPushChoice, CanPushChoices, CanVisit, Visits, GoesOn};
+ghost use Rattle.grow.specs.Grow.{InUse, Grew, slotOf, treeAt, domainAt, SlotHolds, CanPushChoice, CanPushChoices, CanVisit, Visits, GoesOn};
 
 // "at most ten tickets": the Rust's `iterations_per_step`.
 pub const ITERATIONS_PER_STEP: usize = 10;
 
 // The tickets taken, and the goal's node if one was closed.
-pub struct Growth {
+pub struct Grown {
     pub tickets: usize,
     pub solution: Solution,
 }
@@ -37,14 +37,14 @@ pub struct Slot {
 }
 
 // Whether the growing goes on after a ticket.
-pub enum Going {
+pub enum Next {
     On,
     Found,
     Over,
 }
 
 // Takes at most ten tickets of the tree in a slot.
-pub fn grow(words: &mut [u32], slot: usize, goals: &[u32], bound: CostBound) -> Growth
+pub fn grow(words: &mut [u32], slot: usize, goals: &[u32], bound: CostBound) -> Grown
     requires { ⌜ InUse (now words) slot ⌝ }
     ensures { λ r. ⌜ Grew (now (words .entry)) slot (now (goals .entry)) bound r (now (words .exit)) ⌝ }
 {
@@ -54,7 +54,7 @@ pub fn grow(words: &mut [u32], slot: usize, goals: &[u32], bound: CostBound) -> 
     let mut tickets: usize = 0;
     while 0 < left {
         let Popped::Ticket(node, queued) = tree::pop(&mut words[at..end], s.edges) else {
-            return Growth {
+            return Grown {
                 tickets,
                 solution: Solution::Unsolved,
             };
@@ -63,22 +63,22 @@ pub fn grow(words: &mut [u32], slot: usize, goals: &[u32], bound: CostBound) -> 
         left -= 1;
         tickets += 1;
         match visit(words, s, node, goals, bound) {
-            Going::On => {}
-            Going::Found => {
-                return Growth {
+            Next::On => {}
+            Next::Found => {
+                return Grown {
                     tickets,
                     solution: Solution::At(node),
                 };
             }
-            Going::Over => {
-                return Growth {
+            Next::Over => {
+                return Grown {
                     tickets,
                     solution: Solution::Unsolved,
                 };
             }
         }
     }
-    Growth {
+    Grown {
         tickets,
         solution: Solution::Unsolved,
     }
@@ -101,7 +101,7 @@ pub fn slot_of(words: &[u32], slot: usize) -> Slot
 }
 
 // A node was taken from the queue: unless its vertex is closed already, it closes it and its edges are queued.
-fn visit(words: &mut [u32], s: Slot, node: u32, goals: &[u32], bound: CostBound) -> Going
+fn visit(words: &mut [u32], s: Slot, node: u32, goals: &[u32], bound: CostBound) -> Next
     requires { ⌜ CanVisit s (now words) node ⌝ }
     ensures { λ r. ⌜ Visits s (now (words .entry)) (now (words .exit)) node (now (goals .entry)) bound r ⌝ }
 {
@@ -110,7 +110,7 @@ fn visit(words: &mut [u32], s: Slot, node: u32, goals: &[u32], bound: CostBound)
     let cost = layout::node_word(&words[at..end], wide(node), layout::NODE_COST);
     match close(&mut words[at..end], s.edges, wide(vertex), node) {
         CloseResult::Rejected => {
-            return Going::On;
+            return Next::On;
         }
         CloseResult::Accepted => {}
     }
@@ -121,7 +121,7 @@ fn visit(words: &mut [u32], s: Slot, node: u32, goals: &[u32], bound: CostBound)
 // Queues the edges of a vertex that a node closed.
 fn push_choices(words: &mut [u32], s: Slot, node: u32, vertex: u32, cost: u32)
     requires { ⌜ CanPushChoices s (now words) vertex cost ⌝ }
-    ensures { λ _. ⌜ Holds s (now (words .entry)) (now (words .exit)) (pushAll (domainAt s (now (words .entry))) node cost (treeAt s (now (words .entry))) (choices (domainAt s (now (words .entry))) vertex)) ⌝ }
+    ensures { λ _. ⌜ SlotHolds s (now (words .entry)) (now (words .exit)) (pushAll (domainAt s (now (words .entry))) node cost (treeAt s (now (words .entry))) (choices (domainAt s (now (words .entry))) vertex)) ⌝ }
 {
     let numbers = layout::numbers_at(s.vertices, s.edges);
     let slots = layout::slots_at(s.vertices, s.edges);
@@ -141,7 +141,7 @@ fn push_choices(words: &mut [u32], s: Slot, node: u32, vertex: u32, cost: u32)
 // Queues an edge, by its number.
 fn push_choice(words: &mut [u32], s: Slot, node: u32, cost: u32, edge: u32)
     requires { ⌜ CanPushChoice s (now words) cost edge ⌝ }
-    ensures { λ _. ⌜ Holds s (now (words .entry)) (now (words .exit)) (pushNode (treeAt s (now (words .entry))) (child (domainAt s (now (words .entry))) node cost edge)) ⌝ }
+    ensures { λ _. ⌜ SlotHolds s (now (words .entry)) (now (words .exit)) (pushNode (treeAt s (now (words .entry))) (child (domainAt s (now (words .entry))) node cost edge)) ⌝ }
 {
     let number = wide(edge);
     let child = Node {
@@ -155,16 +155,16 @@ fn push_choice(words: &mut [u32], s: Slot, node: u32, cost: u32, edge: u32)
 }
 
 // A goal is a find and stops; then a cost above the bound stops.
-fn going_on(goals: &[u32], bound: CostBound, vertex: u32, cost: u32) -> Going
+fn going_on(goals: &[u32], bound: CostBound, vertex: u32, cost: u32) -> Next
     ensures { λ r. ⌜ GoesOn (now (goals .entry)) bound vertex cost r ⌝ }
 {
     if contains(goals, vertex) {
-        return Going::Found;
+        return Next::Found;
     }
     if is_above(cost, bound) {
-        return Going::Over;
+        return Next::Over;
     }
-    Going::On
+    Next::On
 }
 
 pub fn contains(goals: &[u32], vertex: u32) -> bool

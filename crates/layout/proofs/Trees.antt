@@ -6,7 +6,7 @@ use Prim.Native.Nat.{ℕ, zero, suc, _+_, _*_, _<_, _≤_}
 use native.Mathlib.Omega.{arith}
 use lib.ListN.{length, getD, drop}
 use Rattle.model.specs.Tree.{Node, node, closedAt}
-use Rattle.layout.specs.Layout.{nodesAt, nodeAt, closedAt as closedWordsAt}
+use Rattle.layout.specs.Layout.{nodesAt, nodeAt, closedWordsAt}
 use Rattle.layout.specs.Read.{nodesIn, treeIn}
 use Rattle.layout.proofs.Places.{word-behind, part-at, part-length}
 

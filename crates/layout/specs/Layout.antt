@@ -42,11 +42,11 @@ nodeAt k = nodesAt + 4 * k
 abbrev pub queueAt : ℕ → ℕ
 queueAt l = nodeAt (1 + l)
 
-abbrev pub closedAt : ℕ → ℕ
-closedAt l = queueAt l + (1 + l)
+abbrev pub closedWordsAt : ℕ → ℕ
+closedWordsAt l = queueAt l + (1 + l)
 
 abbrev pub treeWords : ℕ → ℕ → ℕ
-treeWords m l = closedAt l + m
+treeWords m l = closedWordsAt l + m
 
 abbrev pub slotAt : ℕ → ℕ → ℕ → ℕ
 slotAt m l i = slotsAt m l + i * treeWords m l

@@ -7,7 +7,7 @@ use Rattle.model.specs.Lists.{numbers, those, mem}
 use Rattle.model.specs.Graph.{Edge, Graph, Direction, forward, backward, Domain}
 use Rattle.model.specs.Tree.{Node, Tree}
 use Rattle.model.specs.Calls.{Cache}
-use Rattle.layout.specs.Layout.{initialAt, edgesAt, nodesAt, queueAt, closedAt, treeWords, slotAt, part}
+use Rattle.layout.specs.Layout.{initialAt, edgesAt, nodesAt, queueAt, closedWordsAt, treeWords, slotAt, part}
 
 -- "direction 0 forward or 1 backward"
 abbrev pub directionOf : ℕ → Direction
@@ -44,7 +44,7 @@ treeIn m l ws = record {
   start = getD ws 0 0;
   nodes = nodesIn (getD ws 1 0) (drop nodesAt ws);
   waiting = those (λ n. mem n (part (queueAt l) (getD ws 2 0) ws)) (numbers (getD ws 1 0));
-  closed = part (closedAt l) m ws;
+  closed = part (closedWordsAt l) m ws;
 }
 
 abbrev pub treesIn : ℕ → ℕ → ℕ → List ℕ → List Tree

@@ -10,7 +10,7 @@ use Rattle.model.specs.Lists.{allb, allBelow, upto}
 use Rattle.model.specs.Graph.{Graph, Domain, from, to, cost, absent, vertexCount, edgeCount, edgeNumbers}
 use Rattle.model.specs.Tree.{Node, precedes}
 use Rattle.model.specs.Sound.{soundb, starts, distinctb}
-use Rattle.layout.specs.Layout.{headerWords, placesAt, numbersAt, nodesAt, nodeAt, queueAt, closedAt, treeWords, slotAt, needed, part}
+use Rattle.layout.specs.Layout.{headerWords, placesAt, numbersAt, nodesAt, nodeAt, queueAt, closedWordsAt, treeWords, slotAt, needed, part}
 use Rattle.layout.specs.Words.{firstPlaces}
 use Rattle.layout.specs.Read.{nodesIn, treeIn, readCache}
 
@@ -92,7 +92,7 @@ queueTests l t n =
 abbrev pub spareTests : ℕ → List ℕ → List Bool
 spareTests l t =
     zerosb (part (nodeAt (getD t 1 0)) (queueAt l - nodeAt (getD t 1 0)) t)
-    ∷ zerosb (part (queueAt l + getD t 2 0) (closedAt l - (queueAt l + getD t 2 0)) t)
+    ∷ zerosb (part (queueAt l + getD t 2 0) (closedWordsAt l - (queueAt l + getD t 2 0)) t)
     ∷ []
 
 -- nodes used and queue length are within their areas

@@ -4,7 +4,7 @@ ghost use mathlib.Core.Path.{_≡_};
 ghost use Prim.Native.Nat.{_+_, _*_, _^_, _<_, _≤_};
 ghost use lib.ListN.{length, getD};
 ghost use Rattle.model.specs.Limits.{vertexLimit, edgeLimit, slotLimit};
-ghost use Rattle.layout.specs.Layout.{headerWords, initialAt, edgesAt, edgeAt, placesAt, numbersAt, slotsAt, nodeAt, queueAt, closedAt, treeWords, slotAt, needed, Sized, EdgeWord, NodeWord};
+ghost use Rattle.layout.specs.Layout.{headerWords, initialAt, edgesAt, edgeAt, placesAt, numbersAt, slotsAt, nodeAt, queueAt, closedWordsAt, treeWords, slotAt, needed, Sized, EdgeWord, NodeWord};
 
 // No initial cost; also the parent and the edge of a root.
 pub const ABSENT: u32 = 4294967295;
@@ -100,7 +100,7 @@ pub fn queue_at(edges: usize) -> usize
 
 pub fn closed_at(edges: usize) -> usize
     requires { ⌜ edges ≤ edgeLimit ⌝ }
-    ensures { λ r. ⌜ r ≡ closedAt edges ⌝ }
+    ensures { λ r. ⌜ r ≡ closedWordsAt edges ⌝ }
 {
     queue_at(edges) + (1 + edges)
 }

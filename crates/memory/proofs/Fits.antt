@@ -30,7 +30,7 @@ use Rattle.tree.proofs.Parts.{below-in}
 use Rattle.sound.specs.Facts.{SoundWords}
 use Rattle.sound.proofs.Facts.{trees-length, sound-cache, vertices-read}
 use Rattle.grow.specs.Grow.{InUse}
-use Rattle.memory.specs.Memory.{HasNode, Listed, Holds, CanJudge, FitsWords}
+use Rattle.memory.specs.Memory.{HasNode, Listed, EntryHolds, CanJudge, FitsWords}
 
 -- ---- an entry's tree
 
@@ -78,7 +78,7 @@ module _ {ws : List ℕ} (ok : SoundWords ws) where
       let v : ℕ = node (tree (readCache ws .trees) i .nodes) n .vertex in
       sound-cache ws ok .trees .each i h .closer v n (eqb-true _ _ (and-true (mem v gs) _ e .1)) .0
 
-  pub holds-at : (gs : List ℕ) (e : TreeMemory) → allb (entryTests (readCache ws .domain) (readCache ws .trees) gs e) ≡ true → Holds (readCache ws .trees) e
+  pub holds-at : (gs : List ℕ) (e : TreeMemory) → allb (entryTests (readCache ws .domain) (readCache ws .trees) gs e) ≡ true → EntryHolds (readCache ws .trees) e
   holds-at gs e p =
       let t = all-true (entryTests (readCache ws .domain) (readCache ws .trees) gs e) p in
       let slot : e .tree < length (readCache ws .trees) = ltb-true _ _ (t .0) in
@@ -92,7 +92,7 @@ module _ (ws : List ℕ) (s : Search) (ok : SoundWords ws) (l : Listed s) where
   passes e = allb (entryTests (readCache ws .domain) (readCache ws .trees) (goals s) e)
 
   module _ (each : everyb passes (entries s) ≡ true) where
-    pub held-at : (i : ℕ) → i < s .«tree_count» → Holds (readCache ws .trees) (entry s i)
+    pub held-at : (i : ℕ) → i < s .«tree_count» → EntryHolds (readCache ws .trees) (entry s i)
     held-at i h =
         let fits = listed-fits l in
         holds-at ok (goals s) (entry s i) (subst (λ (e : TreeMemory). passes e ≡ true) (entries-at s fits i h)

@@ -13,7 +13,7 @@ use lib.ListN.{length, getD, List·getD-eq-default}
 use Rattle.model.specs.Lists.{mem}
 use Rattle.model.specs.Tree.{Node, node, closedAt}
 use Rattle.model.specs.Valid.{closesGoal}
-use Rattle.layout.specs.Layout.{nodeAt, closedAt as closedWordsAt}
+use Rattle.layout.specs.Layout.{nodeAt, closedWordsAt}
 use Rattle.layout.proofs.Trees.{tree-node, tree-closed-length}
 use Rattle.tree.specs.declared.partial_keyed_closed_set.ClosedStatus.{ClosedStatus}
 use Rattle.tree.specs.declared.partial_keyed_closed_set.ClosedStatus.the-variants.{Open, Closed}

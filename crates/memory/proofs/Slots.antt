@@ -9,7 +9,7 @@ use lib.ListN.{length, getD}
 use Rattle.model.specs.Tree.{Node, Tree, node, evaluation}
 use Rattle.model.specs.Sound.{tree}
 use Rattle.model.proofs.Least.{node-inside}
-use Rattle.layout.specs.Layout.{Sized, nodeAt, closedAt as closedWordsAt, treeWords}
+use Rattle.layout.specs.Layout.{Sized, nodeAt, closedWordsAt, treeWords}
 use Rattle.layout.specs.Read.{readCache}
 use Rattle.layout.proofs.Trees.{tree-nodes, tree-node}
 use Rattle.queue.specs.Queue.{evaluationIn}

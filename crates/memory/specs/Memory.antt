@@ -41,19 +41,19 @@ pub record Listed (s : Search) : Type 0 where
   pub goals : s .«goal_count» ≤ listLimit
 
 -- the solution that an entry holds is a node of its tree, one of ts
-pub record Holds (ts : List Tree) (e : TreeMemory) : Type 0 where
+pub record EntryHolds (ts : List Tree) (e : TreeMemory) : Type 0 where
   pub slot : e .tree < length ts
   pub node : (n : ℕ) → e .solution ≡ At n → n < length (tree ts (e .tree) .nodes)
 
 abbrev pub CanJudge : List ℕ → TreeMemory → Type 0
-CanJudge ws e = SoundWords ws × Holds (readCache ws .trees) e
+CanJudge ws e = SoundWords ws × EntryHolds (readCache ws .trees) e
 
 -- of refusal 8 what keeps a record's numbers in place: no "wanted number is M or more", no "entry's tree .. not in use", and solutions and best
 -- are nodes of their trees
 pub record Fits (m : ℕ) (ts : List Tree) (s : Search) : Type 0 where
   pub listed : Listed s
   pub goals : (i : ℕ) → i < s .«goal_count» → getD (s .«goal_keys») i 0 < m
-  pub held : (i : ℕ) → i < s .«tree_count» → Holds ts (entry s i)
+  pub held : (i : ℕ) → i < s .«tree_count» → EntryHolds ts (entry s i)
   pub best : (i n : ℕ) → s .«best_solution» ≡ Best i n → (i < s .«tree_count») × (n < length (tree ts (entry s i .tree) .nodes))
 
 abbrev pub FitsWords : List ℕ → Search → Type 0

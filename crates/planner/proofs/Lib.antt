@@ -2,7 +2,7 @@
 pub mod Last
 pub mod Waits
 pub mod Solved
-pub mod Going
+pub mod Underway
 pub mod Chains
 pub mod Determined
 pub mod Demand1

@@ -10,7 +10,7 @@ use lib.Seq.{ext-getD}
 use Rattle.model.specs.Lists.{numbers, those, mem}
 use Rattle.model.specs.Graph.{Domain, vertexCount, initialCost}
 use Rattle.model.specs.Tree.{rootNode, newTree}
-use Rattle.layout.specs.Layout.{Sized, nodesAt, queueAt, closedAt, treeWords, part}
+use Rattle.layout.specs.Layout.{Sized, nodesAt, queueAt, closedWordsAt, treeWords, part}
 use Rattle.layout.specs.Read.{nodesIn, treeIn}
 use Rattle.layout.proofs.Places.{word-behind, part-at, part-length}
 use Rattle.queue.specs.Queue.{one, times}
@@ -43,7 +43,7 @@ module _ (m l : ℕ) (t : List ℕ) (v k : ℕ) (len : length t ≡ treeWords m 
         nodes = λ i h. omega (arith, nodes, behind (queueAt l + i) (omega arith) (omega (arith, queued)));
         once = λ x. rw queued (omega (arith, one-most (getD t (queueAt l + 0) 0) x));
         heap = λ i pos h. absurd (omega (arith, queued));
-        closers = λ i h. omega (arith, nodes, behind (closedAt l + i) (omega arith) (omega (arith, len)));
+        closers = λ i h. omega (arith, nodes, behind (closedWordsAt l + i) (omega arith) (omega (arith, len)));
         spare-nodes = λ i a b. behind i (omega (arith, nodes)) (omega arith);
         spare-queue = λ i a b. behind i (omega arith) (omega arith);
       }
@@ -69,13 +69,13 @@ module _ (m l : ℕ) (t : List ℕ) (v k : ℕ) (len : length t ≡ treeWords m 
     unfolding those mem
     waits = ap₂ (λ (q : List ℕ) (n : ℕ). those (λ n. mem n q) (numbers n)) queue nodes
 
-    closed : part (closedAt l) m t ≡ replicate (vertexCount (d .graph)) 0
+    closed : part (closedWordsAt l) m t ≡ replicate (vertexCount (d .graph)) 0
     closed =
-        let n = part-length (closedAt l) m t (omega (arith, len)) in
+        let n = part-length (closedWordsAt l) m t (omega (arith, len)) in
         let zeros = length-replicate {A = ℕ} (vertexCount (d .graph)) 0 in
-        ext-getD 0 (part (closedAt l) m t) (replicate (vertexCount (d .graph)) 0) (omega (arith, n, zeros, size)) (λ i h.
+        ext-getD 0 (part (closedWordsAt l) m t) (replicate (vertexCount (d .graph)) 0) (omega (arith, n, zeros, size)) (λ i h.
         let b : i < m = omega (arith, n) in
-        part-at (closedAt l) m t i b ∙ behind (closedAt l + i) (omega arith) (omega arith) ∙ sym (getD-replicate (vertexCount (d .graph)) i 0 0 (omega (arith, size))))
+        part-at (closedWordsAt l) m t i b ∙ behind (closedWordsAt l + i) (omega arith) (omega arith) ∙ sym (getD-replicate (vertexCount (d .graph)) i 0 0 (omega (arith, size))))
 
     pub new-tree : treeIn m l t ≡ newTree d v
     unfolding treeIn newTree

@@ -12,7 +12,7 @@ use borrow.Author.Tests.{lt-ltb, le-ltb, eq-eqb, ne-eqb}
 use Rattle.model.specs.Lists.{allIn}
 use Rattle.model.specs.Tree.{Node, node, closedAt, evaluation}
 use Rattle.model.specs.Sound.{closerb, begunb}
-use Rattle.layout.specs.Layout.{nodeAt, queueAt, closedAt as closedWordsAt}
+use Rattle.layout.specs.Layout.{nodeAt, queueAt, closedWordsAt}
 use Rattle.layout.specs.Read.{treeIn}
 use Rattle.layout.proofs.Trees.{tree-nodes, tree-node}
 use Rattle.queue.specs.Queue.{evaluationIn}

@@ -17,7 +17,7 @@ use Rattle.model.specs.Tree.{Tree, node, closedAt, evaluation}
 use Rattle.model.specs.Sound.{closedEdges, closedb, reachedb, closerb, onwardb}
 use Rattle.model.proofs.Bools.{and-true, all-true, upto-at, at-upto, all-in-at, at-all-in}
 use Rattle.model.proofs.Lists.{up-length, numbers-mem, numbers-has, numbers-snoc, those-length, those-snoc}
-use Rattle.layout.specs.Layout.{nodeAt, edgeAt, closedAt as closedWordsAt}
+use Rattle.layout.specs.Layout.{nodeAt, edgeAt, closedWordsAt}
 use Rattle.layout.specs.Read.{treeIn, domainOf}
 use Rattle.layout.specs.Held.{Held}
 use Rattle.layout.proofs.Edges.{from-word, to-word, cost-word, vertex-count-in, edge-count-in}

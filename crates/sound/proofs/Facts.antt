@@ -13,7 +13,7 @@ use Rattle.model.specs.Sound.{Sound, tree, starts, soundb}
 use Rattle.model.specs.Calls.{SoundCache}
 use Rattle.model.proofs.Bools.{and-true, true-and, all-true, true-given, upto-at, at-upto}
 use Rattle.model.proofs.Tests.{sound-at, at-sound, distinct-at, at-distinct}
-use Rattle.layout.specs.Layout.{Sized, closedAt as closedWordsAt, treeWords, slotAt, needed}
+use Rattle.layout.specs.Layout.{Sized, closedWordsAt, treeWords, slotAt, needed}
 use Rattle.layout.specs.Read.{treeIn, treesIn, domainOf, readCache}
 use Rattle.layout.specs.Sound.{headerTests, graphTests, formedb, treeWordsb, slotWords, treesTests, soundWordsb}
 use Rattle.layout.proofs.Edges.{vertex-count-in}

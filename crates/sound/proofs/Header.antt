@@ -15,7 +15,7 @@ use lib.Seq.{drop-cons}
 use Rattle.model.specs.Lists.{allb}
 use Rattle.model.specs.Graph.{Graph, absent, from, to, vertexCount}
 use Rattle.model.proofs.Bools.{all-true, true-given}
-use Rattle.layout.specs.Layout.{Sized, edgeAt, nodeAt, queueAt, closedAt, needed, part}
+use Rattle.layout.specs.Layout.{Sized, edgeAt, nodeAt, queueAt, closedWordsAt, needed, part}
 use Rattle.layout.specs.Read.{graphIn}
 use Rattle.layout.specs.Sound.{headerTests, initialb, edgeTests, zerosb, spareTests}
 use Rattle.layout.proofs.Edges.{vertex-count-in, from-word, to-word, cost-word}
@@ -159,7 +159,7 @@ module _ (l : ℕ) (t : List ℕ) {n q : ℕ} (nodes : n ≡ nodeAt (getD t 1 0)
   pub spare-fails : zerosb (part n (q - n) t) ≡ false → false ≡ allb (spareTests l t)
   spare-fails z = sym (all-fails (spareTests l t) 0 (sym same-nodes ∙ z))
 
-  pub spare-last : {k c : ℕ} → k ≡ getD t 2 0 → c ≡ closedAt l → zerosb (part n (q - n) t) ≡ true
+  pub spare-last : {k c : ℕ} → k ≡ getD t 2 0 → c ≡ closedWordsAt l → zerosb (part n (q - n) t) ≡ true
       → zerosb (part (q + k) (c - (q + k)) t) ≡ allb (spareTests l t)
   spare-last ek ec z =
       (λ i. zerosb (part (queue i + ek i) (ec i - (queue i + ek i)) t)) ∙ read-last {cs = spareTests l t} refl 1 refl (sym same-nodes ∙ z)

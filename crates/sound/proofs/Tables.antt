@@ -12,7 +12,7 @@ use Rattle.model.specs.Graph.{Domain, edgeCount, edgesInUse}
 use Rattle.model.specs.Tree.{Tree}
 use Rattle.model.specs.Sound.{closedEdges, closerb, begunb, onwardAllb}
 use Rattle.model.proofs.Lists.{up-length, those-length}
-use Rattle.layout.specs.Layout.{closedAt as closedWordsAt}
+use Rattle.layout.specs.Layout.{closedWordsAt}
 use Rattle.layout.specs.Read.{treeIn, domainOf}
 use Rattle.layout.proofs.Edges.{edge-count-in}
 use Rattle.layout.proofs.Trees.{tree-nodes}

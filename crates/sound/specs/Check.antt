@@ -10,7 +10,7 @@ use Rattle.model.specs.Limits.{vertexLimit, edgeLimit, costLimit, slotLimit}
 use Rattle.model.specs.Lists.{mem, allb, upto}
 use Rattle.model.specs.Graph.{Domain}
 use Rattle.model.specs.Sound.{closerb, fewb, begunb, onwardAllb, starts, distinctb}
-use Rattle.layout.specs.Layout.{Sized, placesAt, nodeAt, queueAt, closedAt as closedWordsAt, treeWords, slotAt, part}
+use Rattle.layout.specs.Layout.{Sized, placesAt, nodeAt, queueAt, closedWordsAt, treeWords, slotAt, part}
 use Rattle.layout.specs.Read.{treeIn, treesIn, domainOf, readCache}
 use Rattle.layout.specs.Sound.{headerTests, graphTests, queueIn, treeWordsb, slotWords, queueTests}
 use Rattle.layout.specs.Held.{Held}
@@ -77,7 +77,7 @@ pub record LeastCosts (costs t xs : List ℕ) : Type 0 where
   pub least : (v : ℕ) → v < vertexLimit → getD costs v 0 ≡ leastCost t xs v
 
 -- the tables after n queue words
-pub record Tables (l : ℕ) (t : List ℕ) (n : ℕ) (marks : List Bool) (costs : List ℕ) : Type 0 where
+pub record QueueTables (l : ℕ) (t : List ℕ) (n : ℕ) (marks : List Bool) (costs : List ℕ) : Type 0 where
   pub marked : Marked marks nodeLimit (part (queueAt l) n t)
   pub least : LeastCosts costs t (part (queueAt l) n t)
 
@@ -86,12 +86,12 @@ pub record QueueTurn (l : ℕ) (t : List ℕ) (i : ℕ) (marks : List Bool) (cos
   pub words : QueueWords l t
   pub place : i < getD t 2 0
   pub passed : allb (queueTests l t i) ≡ true
-  pub tables : Tables l t i marks costs
+  pub tables : QueueTables l t i marks costs
 
 -- the answer for n queue words, and the tables if it is yes
 pub record QueueIs (l : ℕ) (t : List ℕ) (n : ℕ) (r : Bool) (marks : List Bool) (costs : List ℕ) : Type 0 where
   pub answer : r ≡ allb (queueTests l t n)
-  pub tables : r ≡ true → Tables l t n marks costs
+  pub tables : r ≡ true → QueueTables l t n marks costs
 
 -- ---- closed words and edges
 

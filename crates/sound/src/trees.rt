@@ -10,7 +10,7 @@ ghost use Rattle.model.specs.Limits.{vertexLimit, edgeLimit};
 ghost use Rattle.model.specs.Lists.{allb, upto};
 ghost use Rattle.model.specs.Graph.{rootCost};
 ghost use Rattle.model.specs.Sound.{hangsb, closedEdges, rootTests, hangAllb, closerb, begunb, onwardb, onwardAllb};
-ghost use Rattle.layout.specs.Layout.{initialAt, closedAt};
+ghost use Rattle.layout.specs.Layout.{initialAt, closedWordsAt};
 ghost use Rattle.layout.specs.Read.{directionOf, treeIn, domainOf};
 ghost use Rattle.layout.specs.Sound.{zerosb, treeWordsb, spareTests};
 ghost use Rattle.tree.specs.Tree.{treeOf, HasVertex};
@@ -229,7 +229,7 @@ fn queue_word_is_sound(
 
 // Each closed word names a node of its vertex that costs no more than any waiting node, so no more than the first.
 fn closed_are_sound(tree: &[u32], vertices: usize, edges: usize) -> bool
-    requires { ⌜ Waits edges (now tree) × (closedAt edges + vertices ≤ length (now tree)) ⌝ }
+    requires { ⌜ Waits edges (now tree) × (closedWordsAt edges + vertices ≤ length (now tree)) ⌝ }
     ensures { λ r. ⌜ r ≡ upto (closerb (treeOf edges (now (tree .entry)))) vertices ⌝ }
 {
     let mut v = 0;

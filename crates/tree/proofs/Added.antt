@@ -11,8 +11,8 @@ use lib.Dec.{leb}
 use lib.ListN.{length, getD, set, drop, length-set, length-append, List·getD-append}
 use lib.Seq.{sets, length-sets, getD-set-same, getD-set-other, getD-at, ext-getD}
 use borrow.Author.Tests.{le-leb, lt-leb}
-use Rattle.model.specs.Tree.{Node, noNode, closedAt as closedIn, closedWithin, appended, pushIf, pushNode}
-use Rattle.layout.specs.Layout.{nodesAt, nodeAt, queueAt, closedAt}
+use Rattle.model.specs.Tree.{Node, noNode, closedAt, closedWithin, appended, pushIf, pushNode}
+use Rattle.layout.specs.Layout.{nodesAt, nodeAt, queueAt, closedWordsAt}
 use Rattle.layout.specs.Read.{nodesIn, treeIn}
 use Rattle.layout.proofs.Trees.{nodeIn, nodes-in-length, node-at}
 use Rattle.queue.specs.Queue.{evaluationIn, one, times, key, rank, CanPush, Pushed}
@@ -20,7 +20,7 @@ use Rattle.queue.proofs.Times.{one-same, one-other, times-ext, place-times}
 use Rattle.tree.specs.declared.Node.{Node as NodeWords}
 use Rattle.tree.specs.declared.partial_keyed_closed_set.ClosedStatus.{ClosedStatus}
 use Rattle.tree.specs.declared.partial_keyed_closed_set.ClosedStatus.the-variants.{Open, Closed}
-use Rattle.tree.specs.Tree.{treeOf, nodeOf, Formed, statusOf, CanAdd, CanPushNode, Holds}
+use Rattle.tree.specs.Tree.{treeOf, nodeOf, Formed, statusOf, CanAdd, CanPushNode, HoldsTree}
 use Rattle.tree.proofs.Same.{nodes-same, closed-same}
 use Rattle.tree.proofs.Waiting.{waits, waiting-pushed, waits-node}
 use Rattle.tree.proofs.Closed.{open-word, closer-word, closer-used, node-fits, node-cost}
@@ -179,7 +179,7 @@ module _ {l : ℕ} {s : List ℕ} (h : CanAdd l s) (x : NodeWords) where
       nodes = nodes-below;
       once = once;
       heap = p .queue .heap;
-      closers = λ v b. omega (arith, used, behind (closedAt l + v) (omega (arith, queued)), h .formed .closers v (omega (arith, len)));
+      closers = λ v b. omega (arith, used, behind (closedWordsAt l + v) (omega (arith, queued)), h .formed .closers v (omega (arith, len)));
       spare-nodes = λ i a b. kept i (omega arith) (omega arith) (λ k k4 e. omega (arith, used)) b ∙ h .formed .spare-nodes i (omega (arith, used)) b;
       spare-queue = λ i a b. behind i a ∙ h .formed .spare-queue i (omega (arith, queued)) b;
     }
@@ -229,7 +229,7 @@ module _ {l : ℕ} {s : List ℕ} (h : CanAdd l s) (x : NodeWords) {n q : ℕ} {
   pub can-queue : CanPush (set w 1 (getD s 1 0 + 1)) q (getD s 1 0)
   can-queue = rw (same, b) (with-pushes h x)
 
-  pub node-added : {t : List ℕ} → Pushed (set w 1 (getD s 1 0 + 1)) t q (getD s 1 0) → Holds l t (appended (treeOf l s) (nodeOf x))
+  pub node-added : {t : List ℕ} → Pushed (set w 1 (getD s 1 0 + 1)) t q (getD s 1 0) → HoldsTree l t (appended (treeOf l s) (nodeOf x))
   node-added {t} p =
       let pushed : Pushed (withNode s x) t (queueAt l) (getD s 1 0) = rw (same, b) at p in
       record { tree = tree h x pushed; formed = formed h x pushed }
@@ -237,19 +237,19 @@ module _ {l : ℕ} {s : List ℕ} (h : CanAdd l s) (x : NodeWords) {n q : ℕ} {
 -- ---- unless the vertex is closed at no greater cost
 
 -- r: the status of the node's vertex v
-module _ {l : ℕ} {s : List ℕ} {x : NodeWords} (c : CanPushNode l s x) {v : ℕ} (e : v ≡ x .vertex) {r : ClosedStatus} (is : r ≡ statusOf (closedIn (treeOf l s .closed) v)) where
+module _ {l : ℕ} {s : List ℕ} {x : NodeWords} (c : CanPushNode l s x) {v : ℕ} (e : v ≡ x .vertex) {r : ClosedStatus} (is : r ≡ statusOf (closedAt (treeOf l s .closed) v)) where
   abbrev word : ℕ
-  word = closedIn (treeOf l s .closed) (x .vertex)
+  word = closedAt (treeOf l s .closed) (x .vertex)
 
   status-is : r ≡ statusOf word
-  status-is = is ∙ ap (λ (n : ℕ). statusOf (closedIn (treeOf l s .closed) n)) e
+  status-is = is ∙ ap (λ (n : ℕ). statusOf (closedAt (treeOf l s .closed) n)) e
 
   push-is : {b : Bool} → closedWithin (treeOf l s .nodes) (x .cost) word ≡ b → pushIf b (treeOf l s) (nodeOf x) ≡ pushNode (treeOf l s) (nodeOf x)
   unfolding pushNode
   push-is q = ap (λ (b : Bool). pushIf b (treeOf l s) (nodeOf x)) (sym q)
 
-  pub push-open : r ≡ Open → {t : List ℕ} → Holds l t (appended (treeOf l s) (nodeOf x)) → Holds l t (pushNode (treeOf l s) (nodeOf x))
-  push-open o {t} held = subst (Holds l t) (push-is (ap (closedWithin (treeOf l s .nodes) (x .cost)) (open-word word (sym o ∙ status-is)))) held
+  pub push-open : r ≡ Open → {t : List ℕ} → HoldsTree l t (appended (treeOf l s) (nodeOf x)) → HoldsTree l t (pushNode (treeOf l s) (nodeOf x))
+  push-open o {t} held = subst (HoldsTree l t) (push-is (ap (closedWithin (treeOf l s .nodes) (x .cost)) (open-word word (sym o ∙ status-is)))) held
 
   -- closed by node n
   module _ {n : ℕ} (o : r ≡ Closed n) where
@@ -269,8 +269,8 @@ module _ {l : ℕ} {s : List ℕ} {x : NodeWords} (c : CanPushNode l s x) {v : �
           ap (closedWithin (treeOf l s .nodes) (x .cost)) closer
           ∙ ap (λ (y : ℕ). leb y (x .cost)) (node-cost _ l s n used-node ∙ sym q)
 
-      pub push-within : k ≤ x .cost → Holds l s (pushNode (treeOf l s) (nodeOf x))
+      pub push-within : k ≤ x .cost → HoldsTree l s (pushNode (treeOf l s) (nodeOf x))
       push-within h = record { tree = push-is (test ∙ le-leb k (x .cost) h); formed = c .add .formed }
 
-      pub push-above : x .cost < k → {t : List ℕ} → Holds l t (appended (treeOf l s) (nodeOf x)) → Holds l t (pushNode (treeOf l s) (nodeOf x))
-      push-above h {t} held = subst (Holds l t) (push-is (test ∙ lt-leb k (x .cost) h)) held
+      pub push-above : x .cost < k → {t : List ℕ} → HoldsTree l t (appended (treeOf l s) (nodeOf x)) → HoldsTree l t (pushNode (treeOf l s) (nodeOf x))
+      push-above h {t} held = subst (HoldsTree l t) (push-is (test ∙ lt-leb k (x .cost) h)) held

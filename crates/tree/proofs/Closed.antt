@@ -11,7 +11,7 @@ use lib.ListN.{length, getD, set, take, drop, length-set}
 use lib.Seq.{getD-set-same, getD-set-other, take-set-lt, take-set-le, drop-set-add}
 use Rattle.model.specs.Lists.{numbers, those, mem}
 use Rattle.model.specs.Tree.{Node, evaluation, close, closedAt}
-use Rattle.layout.specs.Layout.{nodesAt, nodeAt, queueAt, closedAt as closedWordsAt, part}
+use Rattle.layout.specs.Layout.{nodesAt, nodeAt, queueAt, closedWordsAt, part}
 use Rattle.layout.specs.Read.{nodesIn, treeIn}
 use Rattle.layout.proofs.Trees.{tree-node, tree-closed}
 use Rattle.queue.specs.Queue.{evaluationIn, rank}

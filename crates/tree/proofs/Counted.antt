@@ -11,7 +11,7 @@ use borrow.Author.Tests.{eq-eqb, ne-eqb}
 use lib.ListN.{length, getD, drop, length-drop, drop-of-length-le}
 use lib.Seq.{drop-cons, take-all}
 use Rattle.model.specs.Search.{countIf, closedCount}
-use Rattle.layout.specs.Layout.{closedAt as closedWordsAt}
+use Rattle.layout.specs.Layout.{closedWordsAt}
 use Rattle.layout.specs.Read.{treeIn}
 use Rattle.tree.specs.Tree.{treeOf, Formed}
 

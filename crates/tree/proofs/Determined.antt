@@ -8,7 +8,7 @@ use native.Mathlib.Omega.{arith}
 use native.Mathlib.Decide.{ℕ-discrete, decLt}
 use lib.ListN.{length, getD, List·getD-eq-default}
 use Rattle.model.specs.Tree.{Node, Tree, node, closedAt, popped}
-use Rattle.layout.specs.Layout.{nodeAt, queueAt, closedAt as closedWordsAt}
+use Rattle.layout.specs.Layout.{nodeAt, queueAt, closedWordsAt}
 use Rattle.layout.specs.Read.{treeIn}
 use Rattle.layout.proofs.Trees.{nodeIn, tree-nodes, tree-node, tree-closed}
 use Rattle.tree.specs.Tree.{treeOf, Formed, Pops}

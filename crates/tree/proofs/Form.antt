@@ -15,7 +15,7 @@ use Rattle.model.specs.Tree.{Node, evaluation, precedes}
 use Rattle.model.specs.Sound.{distinctb}
 use Rattle.model.proofs.Lists.{up-mem, up-length, those-none, those-length, those-split}
 use Rattle.model.proofs.Bools.{and-true, or-cases, true-or-left, true-or-right, all-true, true-given, upto-at, at-upto}
-use Rattle.layout.specs.Layout.{nodesAt, nodeAt, queueAt, closedAt}
+use Rattle.layout.specs.Layout.{nodesAt, nodeAt, queueAt, closedWordsAt}
 use Rattle.layout.specs.Read.{nodesIn, treeIn}
 use Rattle.layout.specs.Sound.{queueIn, heapb, queueTests, spareTests, formTests, formedb}
 use Rattle.layout.proofs.Places.{part-at, part-length}
@@ -115,8 +115,8 @@ module _ (l : ℕ) (t : List ℕ) (fits : queueAt l + getD t 2 0 ≤ length t)
 
 -- ---- the whole
 
-pub formed-at : (l : ℕ) (t : List ℕ) → l ≤ 2048 → closedAt l ≤ length t → length t ≤ closedAt l + 1024
-    → ((v : ℕ) → closedAt l + v < length t → getD t (closedAt l + v) 0 ≤ getD t 1 0) → formedb l t ≡ true → Formed l t
+pub formed-at : (l : ℕ) (t : List ℕ) → l ≤ 2048 → closedWordsAt l ≤ length t → length t ≤ closedWordsAt l + 1024
+    → ((v : ℕ) → closedWordsAt l + v < length t → getD t (closedWordsAt l + v) 0 ≤ getD t 1 0) → formedb l t ≡ true → Formed l t
 unfolding formedb
 formed-at l t edges fits vertices closers e =
     let r = all-true (formTests l t) e in
@@ -138,7 +138,7 @@ formed-at l t edges fits vertices closers e =
       heap = heap-at l t fit (omega arith) below (queue .1 .1 .0);
       closers = closers;
       spare-nodes = zeros-at t (nodeAt (getD t 1 0)) (queueAt l) (spare .0);
-      spare-queue = zeros-at t (queueAt l + getD t 2 0) (closedAt l) (spare .1 .0);
+      spare-queue = zeros-at t (queueAt l + getD t 2 0) (closedWordsAt l) (spare .1 .0);
     }
 
 pub at-formed : (l : ℕ) (t : List ℕ) → Formed l t → formedb l t ≡ true
@@ -154,4 +154,4 @@ at-formed l t f =
     (at-heap l t fit (omega (arith, f .used, f .edges)) (f .nodes) (f .heap)))
     (true-given (spareTests l t)
     (at-zeros t (nodeAt (getD t 1 0)) (queueAt l) (f .spare-nodes))
-    (at-zeros t (queueAt l + getD t 2 0) (closedAt l) (f .spare-queue)))
+    (at-zeros t (queueAt l + getD t 2 0) (closedWordsAt l) (f .spare-queue)))

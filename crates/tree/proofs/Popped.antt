@@ -10,7 +10,7 @@ use native.Mathlib.Decide.{ℕ-discrete, decLt}
 use lib.ListN.{getD, drop}
 use Rattle.model.specs.Tree.{Node, evaluation, least, leastOf, popped}
 use Rattle.model.proofs.Lists.{Before, before-one, Least, least-is}
-use Rattle.layout.specs.Layout.{nodesAt, queueAt, closedAt}
+use Rattle.layout.specs.Layout.{nodesAt, queueAt, closedWordsAt}
 use Rattle.layout.specs.Read.{nodesIn, treeIn}
 use Rattle.queue.specs.declared.Popped.{Popped}
 use Rattle.queue.specs.declared.Popped.the-variants.{Ticket, Empty}
@@ -99,7 +99,7 @@ module _ {l k m : ℕ} {s t : List ℕ} (f : Formed l s) (p : Taken s t (queueAt
     nodes = λ i h. omega (arith, used, waits-node f (getD t (queueAt l + i) 0) (omega (arith, counts (getD t (queueAt l + i) 0), place-times t (queueAt l) (getD t 2 0) i h)));
     once = λ x. omega (arith, counts x, f .once x);
     heap = p .queue .heap;
-    closers = λ v h. omega (arith, used, p .above (closedAt l + v) (omega arith), f .closers v (omega arith));
+    closers = λ v h. omega (arith, used, p .above (closedWordsAt l + v) (omega arith), f .closers v (omega arith));
     spare-nodes = λ i h b. p .below i b (omega arith) ∙ f .spare-nodes i (omega (arith, used)) b;
     spare-queue = λ i h b. elim (ℕ-discrete i (queueAt l + m)) [
       | yes e ↦ ap (λ (j : ℕ). getD t j 0) e ∙ p .cleared

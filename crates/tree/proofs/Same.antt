@@ -7,7 +7,7 @@ use native.Mathlib.Omega.{arith}
 use lib.ListN.{length, getD, drop, length-take, length-drop}
 use lib.Seq.{ext-getD}
 use Rattle.model.specs.Tree.{noNode}
-use Rattle.layout.specs.Layout.{nodesAt, nodeAt, closedAt, treeWords, part}
+use Rattle.layout.specs.Layout.{nodesAt, nodeAt, closedWordsAt, treeWords, part}
 use Rattle.layout.specs.Read.{nodesIn, treeIn}
 use Rattle.layout.proofs.Places.{part-at}
 use Rattle.layout.proofs.Trees.{nodeIn, nodes-in-length, node-at}
@@ -37,13 +37,13 @@ part-same a n s t e f =
     part-at a n t i k ∙ f i k ∙ sym (part-at a n s i k))
 
 -- the closed words of a tree, which are its last
-pub closed-same : (l : ℕ) (s t : List ℕ) → length t ≡ length s → ((j : ℕ) → closedAt l ≤ j → getD t j 0 ≡ getD s j 0) → treeOf l t .closed ≡ treeOf l s .closed
+pub closed-same : (l : ℕ) (s t : List ℕ) → length t ≡ length s → ((j : ℕ) → closedWordsAt l ≤ j → getD t j 0 ≡ getD s j 0) → treeOf l t .closed ≡ treeOf l s .closed
 unfolding treeIn
 closed-same l s t e f =
-    ap (λ (n : ℕ). part (closedAt l) (n - closedAt l) t) e ∙ part-same (closedAt l) (length s - closedAt l) s t e (λ j _. f (closedAt l + j) (omega arith))
+    ap (λ (n : ℕ). part (closedWordsAt l) (n - closedWordsAt l) t) e ∙ part-same (closedWordsAt l) (length s - closedWordsAt l) s t e (λ j _. f (closedWordsAt l + j) (omega arith))
 
 -- all words behind the queue are closed words
 pub tree-of : (m l : ℕ) (t : List ℕ) → length t ≡ treeWords m l → treeOf l t ≡ treeIn m l t
 tree-of m l t n =
-    let all : length t - closedAt l ≡ m = omega (arith, n) in
+    let all : length t - closedWordsAt l ≡ m = omega (arith, n) in
     ap (λ (k : ℕ). treeIn k l t) all

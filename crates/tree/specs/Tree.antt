@@ -11,7 +11,7 @@ use Rattle.model.specs.declared.Solution.the-variants.{Unsolved, At}
 use Rattle.model.specs.Graph.{Domain}
 use Rattle.model.specs.Search.{cheapest, consider}
 use Rattle.model.specs.Tree.{Node, Tree, least, popped, close, closedAt}
-use Rattle.layout.specs.Layout.{nodeAt, queueAt, closedAt as closedWordsAt}
+use Rattle.layout.specs.Layout.{nodeAt, queueAt, closedWordsAt}
 use Rattle.layout.specs.Read.{treeIn}
 use Rattle.queue.specs.declared.Popped.{Popped}
 use Rattle.queue.specs.declared.Popped.the-variants.{Ticket, Empty}
@@ -112,6 +112,6 @@ pub record CanPushNode (l : ℕ) (t : List ℕ) (x : NodeWords) : Type 0 where
   pub vertex : HasVertex l t (x .vertex)
 
 -- t is a tree's words that hold the tree u
-pub record Holds (l : ℕ) (t : List ℕ) (u : Tree) : Type 0 where
+pub record HoldsTree (l : ℕ) (t : List ℕ) (u : Tree) : Type 0 where
   pub tree : treeOf l t ≡ u
   pub formed : Formed l t

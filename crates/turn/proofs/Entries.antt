@@ -14,7 +14,7 @@ use Rattle.model.specs.Tree.{Tree, least}
 use Rattle.model.specs.Search.{closedCount, lookup, under}
 use Rattle.layout.specs.Read.{readCache}
 use Rattle.tree.specs.Tree.{treeOf, HasGoals}
-use Rattle.grow.specs.declared.Growth.{Growth}
+use Rattle.grow.specs.declared.Grown.{Grown}
 use Rattle.grow.specs.declared.Slot.{Slot}
 use Rattle.grow.specs.Grow.{InUse, slotOf}
 use Rattle.memory.proofs.Slots.{lent, part-length, part-formed, part-tree, part-value}
@@ -31,7 +31,7 @@ module _ {ws : List ℕ} {i : ℕ} {gs : List ℕ} (can : CanTurn ws i gs) {p : 
   looked-up known f = let d : Domain = readCache ws .domain in f d ∙ ap (λ (t : Tree). lookup d t gs known) (part-tree (can .used) e)
 
 -- n: the part's closed count; more: the test of its first ticket
-module _ {ws : List ℕ} {i : ℕ} (u : InUse ws i) {p : Slot} (e : p ≡ slotOf ws i) (g : Growth) (b : CostBound) {n : ℕ} {more : Bool} where
+module _ {ws : List ℕ} {i : ℕ} (u : InUse ws i) {p : Slot} (e : p ≡ slotOf ws i) (g : Grown) (b : CostBound) {n : ℕ} {more : Bool} where
   pub remembers : n ≡ closedCount (treeOf (p .edges) (lent u e) .closed)
       → more ≡ under (treeOf (p .edges) (lent u e) .nodes) (least (treeOf (p .edges) (lent u e) .nodes) (treeOf (p .edges) (lent u e) .waiting)) b
       → Remembers (treeAt ws i) g b (record { known = Len n; find = g .solution; more = more; tickets = g .tickets })

@@ -19,7 +19,7 @@ use Rattle.model.specs.Search.{closedCount, under, Turn, grown}
 use Rattle.model.specs.Calls.{Cache, withTrees}
 use Rattle.layout.specs.Read.{readCache}
 use Rattle.sound.proofs.Facts.{trees-length}
-use Rattle.grow.specs.declared.Growth.{Growth}
+use Rattle.grow.specs.declared.Grown.{Grown}
 use Rattle.grow.specs.Grow.{InUse, growthOf, Grew}
 use Rattle.turn.specs.declared.Outcome.{Outcome}
 use Rattle.turn.specs.Turn.{treeAt, CanTurn, turnOf, Turns, LooksUp, Remembers}
@@ -29,7 +29,7 @@ use Rattle.turn.proofs.Turning.{turn-found, turn-grown}
 pub tree-left : {ws : List ℕ} (left : List ℕ) {i : ℕ} → InUse ws i → (t : Tree) → readCache left ≡ withTrees (readCache ws) (set (readCache ws .trees) i t) → treeAt left i ≡ t
 tree-left {ws} left {i} u t e = ap (λ (c : Cache). tree (c .trees) i) e ∙ getD-set-same (readCache ws .trees) i t noTree (omega (arith, trees-length ws, u .slot))
 
-module _ {ws : List ℕ} {i : ℕ} {gs : List ℕ} (u : InUse ws i) {b : CostBound} {g : Growth} {left : List ℕ} (grew : Grew ws i gs b g left) where
+module _ {ws : List ℕ} {i : ℕ} {gs : List ℕ} (u : InUse ws i) {b : CostBound} {g : Grown} {left : List ℕ} (grew : Grew ws i gs b g left) where
   pub can-remember : InUse left i
   can-remember = record { sound = grew .sound; slot = omega (arith, u .slot, grew .outside .word 4 (inl (omega arith))) }
 

@@ -25,7 +25,7 @@ use Rattle.layout.specs.Layout.{slotAt, treeWords}
 use Rattle.layout.specs.Read.{readCache}
 use Rattle.tree.specs.Tree.{treeOf, Formed, HasGoals}
 use Rattle.sound.specs.Facts.{SoundWords}
-use Rattle.grow.specs.declared.Growth.{Growth}
+use Rattle.grow.specs.declared.Grown.{Grown}
 use Rattle.grow.specs.Grow.{InUse, Outside}
 use Rattle.memory.specs.Memory.{FitsWords, HasNode}
 use Rattle.turn.specs.declared.Turned.{Turned}
@@ -114,7 +114,7 @@ LooksUp ws i gs known r = r ≡ lookup (readCache ws .domain) (treeAt ws i) gs k
 -- ---- 2. and 3. "the closed count is remembered, and a queue .. keeps the search unfinished"
 
 -- what comes of the growing g that left the tree t
-pub record Remembers (t : Tree) (g : Growth) (b : CostBound) (r : Outcome) : Type 0 where
+pub record Remembers (t : Tree) (g : Grown) (b : CostBound) (r : Outcome) : Type 0 where
   pub known : r .known ≡ Len (closedCount (t .closed))
   pub find : r .find ≡ g .solution
   pub more : r .more ≡ under (t .nodes) (least (t .nodes) (t .waiting)) b

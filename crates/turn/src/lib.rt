@@ -1,6 +1,6 @@
 // The turns of a search's entries, one after the other: the Rust's loop over `memory.trees` in `step`. Only `step_trees` and the record's
 // methods are handed the record, for each function that it is handed to copies it.
-use grow::Growth;
+use grow::Grown;
 use grow::slot_of;
 use memory::solution_cost;
 use model::BestSolution;
@@ -155,7 +155,7 @@ fn grow_tree(words: &mut [u32], slot: usize, goals: &[u32], bound: CostBound) ->
 }
 
 // The closed count is remembered, and a queue with a ticket under the bound keeps the search unfinished.
-fn remember(words: &[u32], slot: usize, growth: Growth, bound: CostBound) -> Outcome
+fn remember(words: &[u32], slot: usize, growth: Grown, bound: CostBound) -> Outcome
     requires { ⌜ InUse (now words) slot ⌝ }
     ensures { λ r. ⌜ Remembers (treeAt (now (words .entry)) slot) growth bound r ⌝ }
 {

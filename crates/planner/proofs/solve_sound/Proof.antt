@@ -5,12 +5,12 @@ use Prim.Native.Nat.{_-_}
 use native.Mathlib.Omega.{arith}
 use borrow.Author.Needs.{needs}
 use borrow.Author.Tests.{not-true, not-false}
-use Rattle.planner.proofs.Going.{Going, going-first, going-sound, going-length, going-ends, going-few, going-answers, going-more}
+use Rattle.planner.proofs.Underway.{Underway, going-first, going-sound, going-length, going-ends, going-few, going-answers, going-more}
 use Rattle.planner.proofs.solve_sound.Statement.{statement}
 use Rattle.planner.proofs.solve_sound.Tie as tie
 
 abbrev Inv-loop : tie.InvT-loop
-Inv-loop words₀ steps next₀ waits₀ tickets₀ words next waits tickets = Going words₀ next₀ steps words next waits tickets
+Inv-loop words₀ steps next₀ waits₀ tickets₀ words next waits tickets = Underway words₀ next₀ steps words next waits tickets
 
 abbrev μ-loop : tie.MeasureT-loop
 μ-loop words₀ steps next₀ waits₀ tickets₀ words next waits tickets = steps - waits

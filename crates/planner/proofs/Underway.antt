@@ -26,17 +26,17 @@ use Rattle.planner.proofs.Waits.{Stays, waited-stays}
 use Rattle.planner.proofs.Solved.{called-solves}
 
 -- w steps of at most n, with t tickets, led from ws and s to words and next
-pub record Going (ws : List ℕ) (s : Search) (n : ℕ) (words : List ℕ) (next : Search) (w t : ℕ) : Type 0 where
+pub record Underway (ws : List ℕ) (s : Search) (n : ℕ) (words : List ℕ) (next : Search) (w t : ℕ) : Type 0 where
   pub ok : soundWordsb ws ≡ true
   pub waited : Waited ws s w t words next
   pub some : 0 < n
   pub within : w ≤ n
   pub few : t ≤ 640 * w
 
-pub going-first : (ws : List ℕ) (s : Search) (n : ℕ) → soundWordsb ws ≡ true → 0 < n → Going ws s n ws s 0 0
+pub going-first : (ws : List ℕ) (s : Search) (n : ℕ) → soundWordsb ws ≡ true → 0 < n → Underway ws s n ws s 0 0
 going-first ws s n ok some = record { ok = ok; waited = at-first; some = some; within = omega arith; few = omega arith }
 
-module _ {ws : List ℕ} {s : Search} {n : ℕ} {words : List ℕ} {next : Search} {w t : ℕ} (g : Going ws s n words next w t) where
+module _ {ws : List ℕ} {s : Search} {n : ℕ} {words : List ℕ} {next : Search} {w t : ℕ} (g : Underway ws s n words next w t) where
   stays : Stays ws s w t words next
   stays = waited-stays (g .ok) (g .waited)
 
@@ -63,7 +63,7 @@ module _ {ws : List ℕ} {s : Search} {n : ℕ} {words : List ℕ} {next : Searc
         → Solving ws s n (record { answer = a; waits = w; tickets = t + r .tickets; search = r .search }) left
     going-answers e {a} told = called-solves ws s (g .ok) (one-ends r a (omega arith) (g .waited) steps e told)
 
-    pub going-more : isWaiting (stepReply (r .answer)) ≡ true → Going ws s n left (r .search) (w + 1) (t + r .tickets)
+    pub going-more : isWaiting (stepReply (r .answer)) ≡ true → Underway ws s n left (r .search) (w + 1) (t + r .tickets)
     going-more e = record {
       ok = g .ok;
       waited = once-more r (g .waited) steps e;
