@@ -29,8 +29,8 @@ table =
     -- "a chain of 10 motifs, first to last (1 wait)"
     ∷ record {
       chart = "M,0,0\nM,1,0\nM,2,0\nM,3,0\nM,4,0\nM,5,0\nM,6,0\nM,7,0\nM,8,0\nM,9,0\nL,0,1,1\nL,1,2,1\nL,2,3,1\nL,3,4,1\nL,4,5,1\nL,5,6,1\nL,6,7,1\nL,7,8,1\nL,8,9,1\n";
-      orders = "F,0,9\n";
-      prints = "order,answer,total,waits,tickets,run\n0,solved,9,1,10,0 0 1 1 2 2 3 3 4 4 5 5 6 6 7 7 8 8 9\n";
+      orders = "F,0,9\nB,0,9\n";
+      prints = "order,answer,total,waits,tickets,run\n0,solved,9,1,10,0 0 1 1 2 2 3 3 4 4 5 5 6 6 7 7 8 8 9\n1,solved,9,1,10,0 0 1 1 2 2 3 3 4 4 5 5 6 6 7 7 8 8 9\n";
     }
     -- "and of 11 (2)"
     ∷ record {

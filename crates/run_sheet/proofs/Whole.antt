@@ -12,8 +12,9 @@ use lib.Dec.{ltb}
 use lib.ListN.{length, take, drop, length-drop}
 use lib.Seq.{drop-drop}
 use Rattle.model.specs.declared.Refusal.{Refusal}
+use Rattle.model.specs.declared.OpenAnswer.{OpenAnswer}
 use Rattle.model.specs.declared.OpenAnswer.the-variants as opening
-use Rattle.model.specs.Answers.{Reply, answered, refused, number}
+use Rattle.model.specs.Answers.{Reply, answered, refused, number, openReply}
 use Rattle.model.specs.Graph.{Graph, backward, vertexCount, edgeCount}
 use Rattle.model.specs.Calls.{firstFault, opened}
 use Rattle.model.proofs.Replies.{answered-refused, answered-is}
@@ -189,11 +190,13 @@ module _ (chart orders : List ℕ) where
           ∙ ap (λ (b : Bool). filesText false b chart orders) (sym fewer)
 
       -- either direction's refusal is the chart's
-      pub chart-refused : (ws left : List ℕ) (d : ℕ) (f : Refusal) (line : ℕ) → firstFault (measureFaults d lentSlots) ≡ none → length ws ≡ lentWords
-          → Opening ws chart d lentSlots (opening.Refused f line) left → sheetText chart orders ≡ refusedLine (number f)
+      pub chart-refused : (ws left : List ℕ) (d : ℕ) {r : OpenAnswer} {f : Refusal} {line n : ℕ} → firstFault (measureFaults d lentSlots) ≡ none
+          → length ws ≡ lentWords → Opening ws chart d lentSlots r left → r ≡ opening.Refused f line → n ≡ number f → sheetText chart orders ≡ refusedLine n
       unfolding openCache
-      chart-refused ws left d f line fine size h =
-          charted ∙ go (readGraph chart) (ap (λ (x : AfterOpen). x .reply) (h ∙ ap (λ (o : Option ℕ). openBy o ws chart d lentSlots) fine))
+      chart-refused ws left d {r} {f} {line} fine size h e same =
+          charted
+          ∙ go (readGraph chart) (ap openReply (sym e) ∙ ap (λ (x : AfterOpen). x .reply) (h ∙ ap (λ (o : Option ℕ). openBy o ws chart d lentSlots) fine))
+          ∙ ap refusedLine (sym same)
         where
           by : (g : Graph) (b : Bool) → b ≡ ltb (length ws) (needed (vertexCount g) (edgeCount g) lentSlots) → refused (number f) line ≡ openIf b g ws d lentSlots .reply
               → ordersText (ltb lentWords (needed (vertexCount g) (edgeCount g) lentSlots)) g orders ≡ refusedLine (number f)
