@@ -15,7 +15,7 @@ use Rattle.checked.proofs.Records.{step-few}
 use Rattle.planner.specs.declared.StepsTaken.{StepsTaken}
 use Rattle.planner.specs.Solve.{solveIf, solveWords, Solving}
 use Rattle.planner.proofs.Solved.{solve-from}
-use Rattle.run_sheet.specs.Sheet.{Counted, afterSteps}
+use Rattle.run_sheet.specs.Sheet.{CountsFit, afterSteps}
 
 -- a step that waits, and the rest; or the last
 pub steps-cases : (P : AfterSteps → Type 0) (c : Cache) (s : Search) (w t n : ℕ) → (isWaiting (step c s .reply) ≡ true → P (more c s w t n))
@@ -52,7 +52,7 @@ module _ {ws left : List ℕ} {s : Search} {n : ℕ} {r : StepsTaken} (p : Solvi
       called ∙ ap (λ (b : Bool). solveIf b n (readCache ws) s) ok
 
   -- 640 × 15,000,000 is a number of 10 digits
-  pub taken-counted : 0 < n → n ≤ 15000000 → Counted r
+  pub taken-counted : 0 < n → n ≤ 15000000 → CountsFit r
   taken-counted some h =
       let few = rw (sym (solve-from n (readCache ws) s (λ none. absurd (omega arith)))) at (steps-few n (readCache ws) s 0 0) in
       record {

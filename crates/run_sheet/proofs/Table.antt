@@ -4,10 +4,14 @@ use mathlib.Core.Path.{_≡_, refl}
 use mathlib.Core.List.{List, [], _∷_, map}
 use Prim.Native.Nat.{ℕ}
 use Prim.Native.String.{String}
+use lib.ListN.{replicate}
+use Rattle.model.specs.Answers.{answered}
+use Rattle.model.specs.Graph.{Graph}
 use Rattle.model.specs.Path.{path, words}
 use Rattle.text.specs.Bytes.{bytes}
 use Rattle.text.proofs.Examples.{exampleText}
-use Rattle.run_sheet.specs.Whole.{sheetText}
+use Rattle.sheet.specs.Answers.{refusedLine}
+use Rattle.run_sheet.specs.Whole.{title, linesText, chartText, sheetText}
 
 pub record Sheet : Type 0 where
   pub chart : String
@@ -55,8 +59,8 @@ rows = refl
 
 -- ---- where the sheet ends before its orders, and at its ends
 
-unfoldable pub edges : List Sheet
-edges =
+unfoldable pub ends : List Sheet
+ends =
     -- "A refused chart .. prints only `refused` and number"
     record { chart = "M,0,0\nM,2,0\n"; orders = "F,0,0\n"; prints = "refused 2\n" }
     -- "An order without this form is refused 1": another letter, a comma too few, one without LF
@@ -66,8 +70,49 @@ edges =
       prints = "order,answer,total,waits,tickets,run\n0,refused 1,-,0,0,-\n1,refused 1,-,0,0,-\n2,refused 1,-,0,0,-\n3,refused 1,-,0,0,-\n";
     }
     ∷ record { chart = exampleText; orders = ""; prints = "order,answer,total,waits,tickets,run\n" }
+    -- 16 slots: 17 new trees outnumber them, 16 do not
+    ∷ record {
+      chart = "M,0,0\nM,1,0\nM,2,0\nM,3,0\nM,4,0\nM,5,0\nM,6,0\nM,7,0\nM,8,0\nM,9,0\nM,10,0\nM,11,0\nM,12,0\nM,13,0\nM,14,0\nM,15,0\nM,16,0\n";
+      orders = "F,0 1 2 3 4 5 6 7 8 9 10 11 12 13 14 15 16,16\nF,0 1 2 3 4 5 6 7 8 9 10 11 12 13 14 15,16\n";
+      prints = "order,answer,total,waits,tickets,run\n0,refused 6,-,0,0,-\n1,none,-,1,16,-\n";
+    }
     ∷ []
 
-pub edge-rows : map (λ (x : Sheet). sheetText (bytes (x .chart)) (bytes (x .orders))) edges ≡ map (λ (x : Sheet). bytes (x .prints)) edges
-unfolding edges sheetText bytes
-edge-rows = refl
+pub end-rows : map (λ (x : Sheet). sheetText (bytes (x .chart)) (bytes (x .orders))) ends ≡ map (λ (x : Sheet). bytes (x .prints)) ends
+unfolding ends sheetText bytes
+end-rows = refl
+
+-- ---- the limits of bytes and of words
+
+-- n bytes `X`, which are no line
+abbrev file : ℕ → List ℕ
+file n = replicate n 88
+
+-- a chart of 65,536 bytes is looked at, one of 65,537 is not; and so are the orders
+whole-chart : sheetText (file 65536) [] ≡ bytes "refused 1\n"
+unfolding sheetText bytes
+whole-chart = refl
+
+overlong-chart : sheetText (file 65537) [] ≡ bytes "refused 4\n"
+unfolding sheetText bytes
+overlong-chart = refl
+
+whole-orders : sheetText (bytes exampleText) (file 65536) ≡ bytes "order,answer,total,waits,tickets,run\n0,refused 1,-,0,0,-\n"
+unfolding sheetText bytes
+whole-orders = refl
+
+overlong-orders : sheetText (bytes exampleText) (file 65537) ≡ bytes "refused 4\n"
+unfolding sheetText bytes
+overlong-orders = refl
+
+-- m vertices and l edges from 0 to 0: 4 and 188 need 15,998 words, 877 and 1 need 16,004, and no others need more than the first and
+-- less than the second
+abbrev graph : ℕ → ℕ → Graph
+graph m l = record { initial = replicate m 0; edges = replicate l (record { from = 0; to = 0; cost = 0 }) }
+
+words-enough : chartText (answered (graph 4 188)) [] ≡ title
+unfolding title linesText
+words-enough = refl
+
+words-short : chartText (answered (graph 877 1)) [] ≡ refusedLine 5
+words-short = refl

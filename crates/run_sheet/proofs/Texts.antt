@@ -33,7 +33,7 @@ use Rattle.sheet.specs.declared.orders.Order.{Order}
 use Rattle.sheet.specs.Orders.{orderOf}
 use Rattle.sheet.specs.Answers.{Puts, lineOf}
 use Rattle.sheet.proofs.answers.Answer as answer
-use Rattle.run_sheet.specs.Orders.{answerOf, refusedText, shownText, drivenBy, drivenText, orderedBy, Ordered, ordered}
+use Rattle.run_sheet.specs.Orders.{answerOf, refusedOrder, shownText, drivenBy, drivenText, orderedBy, Ordered, ordered}
 use Rattle.run_sheet.specs.Whole.{listed}
 use Rattle.run_sheet.specs.Sheet.{afterSteps, Ran, RanBy, RanLine}
 use Rattle.run_sheet.proofs.Within.{put-within}
@@ -81,8 +81,8 @@ module _ (ws : List ℕ) (t : StepsTaken) (i : ℕ) where
         ∙ ap (λ (x : Answer). lineOf (lineBy i d x) (take (1 + 2 * m) q)) answers
         ∙ shown-text (retracing.Moves m) e
 
-    pub no-path-text : {f : Refusal} {line n : ℕ} → r ≡ retracing.Refused f line → n ≡ number f → refusedText i n ≡ drivenText i d
-    no-path-text {f} {line} e h = ap (refusedText i) h ∙ shown-text (retracing.Refused f line) e
+    pub no-path-text : {f : Refusal} {line n : ℕ} → r ≡ retracing.Refused f line → n ≡ number f → refusedOrder i n ≡ drivenText i d
+    no-path-text {f} {line} e h = ap (refusedOrder i) h ∙ shown-text (retracing.Refused f line) e
 
 -- ---- an order of legal form
 
@@ -113,9 +113,9 @@ module _ {ws ss gs : List ℕ} (ok : soundWordsb ws ≡ true) {r : SearchOpened}
         → Ran ws i ss gs out n words out′
     ran e t c s = record { text = puts-as (ap (λ (y : Ordered). y .text) e) t; cache = c ∙ ap (λ (y : Ordered). y .cache) e; sound = s }
 
-  pub ran-refused : {i n : ℕ} {out out′ : List ℕ} {f : Refusal} {line k : ℕ} → r .answer ≡ initializing.Refused f line → k ≡ number f → Puts out 0 (refusedText i k) n out′
+  pub ran-refused : {i n : ℕ} {out out′ : List ℕ} {f : Refusal} {line k : ℕ} → r .answer ≡ initializing.Refused f line → k ≡ number f → Puts out 0 (refusedOrder i k) n out′
       → Ran ws i ss gs out n left out′
-  ran-refused {i} {f = f} {line = line} e h t = ran (opens-as i (initializing.Refused f line) e) (puts-as (ap (refusedText i) h) t) refl (p .sound ∙ ok)
+  ran-refused {i} {f = f} {line = line} e h t = ran (opens-as i (initializing.Refused f line) e) (puts-as (ap (refusedOrder i) h) t) refl (p .sound ∙ ok)
 
   pub ran-driven : {i n : ℕ} {out words out′ : List ℕ} {t : StepsTaken} → r .answer ≡ initializing.Initialized → Solving left (r .search) maxSteps t words
       → Puts out 0 (drivenText i (afterSteps t words)) n out′ → Ran ws i ss gs out n words out′

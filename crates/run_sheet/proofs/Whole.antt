@@ -34,7 +34,7 @@ use Rattle.sheet.specs.declared.orders.Order.{Order}
 use Rattle.sheet.specs.Orders.{orderOf}
 use Rattle.sheet.specs.Answers.{Puts, refusedLine}
 use Rattle.run_sheet.specs.declared.Part.{Part}
-use Rattle.run_sheet.specs.Orders.{refusedText}
+use Rattle.run_sheet.specs.Orders.{refusedOrder}
 use Rattle.run_sheet.specs.Whole.{lentWords, lentSlots, title, Caches, Printed, printedBy, printed, linesFrom, linesIn, linesText, ordersText, chartText, freshBoth, isOverlong, filesText, sheetText}
 use Rattle.run_sheet.specs.Sheet.{RanBy, RanLine, cachesIn, CanGoOn, PutsPart, RefusedPart, Begins, PutsNext, Written, Parts, no-more, one-more, WritesSheet}
 use Rattle.run_sheet.proofs.Called.{called-both, called-after}
@@ -64,7 +64,7 @@ lines-cut i c l h =
     ∙ parted-some (λ ps. linesFrom i c (take (place 10 l) l) ps ≡ (let r = printed i c (take (place 10 l) l) in r .text ++ linesIn (suc i) (r .caches) ps))
     (λ p ps. refl) 10 (drop (place 10 l + 1) l)
 
-lines-whole : (i : ℕ) (c : Caches) (l : List ℕ) → 0 < length l → place 10 l ≡ length l → linesText i c l ≡ refusedText i 1
+lines-whole : (i : ℕ) (c : Caches) (l : List ℕ) → 0 < length l → place 10 l ≡ length l → linesText i c l ≡ refusedOrder i 1
 unfolding linesText
 lines-whole i c [] h e = absurd (omega arith)
 lines-whole i c (x ∷ xs) h e = ap (linesIn i c) (parted-whole 10 (x ∷ xs) e)
@@ -74,7 +74,7 @@ module _ (i : ℕ) (c : Caches) (text : List ℕ) (at : ℕ) {p : ℕ} (found : 
   place-at : p ≡ place 10 (drop at text)
   place-at = found ∙ ap (place 10) (part-back at text)
 
-  last-line : at < length text → at + p ≡ length text → linesText i c (drop at text) ≡ refusedText i 1
+  last-line : at < length text → at + p ≡ length text → linesText i c (drop at text) ≡ refusedOrder i 1
   last-line h e = lines-whole i c (drop at text) (omega (arith, length-drop at text)) (omega (arith, place-at, length-drop at text))
 
   next-line : at + p < length text
@@ -92,12 +92,12 @@ module _ (i : ℕ) (c : Caches) (text : List ℕ) (at : ℕ) {p : ℕ} (found : 
 -- ---- a part that is put
 
 -- an order that was run is as it is printed
-record Ran (fs bs : List ℕ) (out : List ℕ) (x : Printed) (r : ℕ) (fs′ bs′ out′ : List ℕ) : Type 0 where
+record RanAs (fs bs : List ℕ) (out : List ℕ) (x : Printed) (r : ℕ) (fs′ bs′ out′ : List ℕ) : Type 0 where
   text : Puts out 0 (x .text) r out′
   caches : cachesIn fs′ bs′ ≡ x .caches
 
 ran-by : (f : Form) (fs bs : List ℕ) (i : ℕ) (o : Order) (out : List ℕ) (r : ℕ) (fs′ bs′ out′ : List ℕ) → RanBy f fs bs i o out r fs′ bs′ out′
-    → Ran fs bs out (printedBy f i (cachesIn fs bs) o) r fs′ bs′ out′
+    → RanAs fs bs out (printedBy f i (cachesIn fs bs) o) r fs′ bs′ out′
 ran-by Forward fs bs i o out r fs′ bs′ out′ h = record {
   text = h .ran .text;
   caches = λ j. record { forward = h .ran .cache j; backward = ap readCache (h .stays) j };
@@ -109,23 +109,23 @@ ran-by Backward fs bs i o out r fs′ bs′ out′ h = record {
 ran-by Illegal fs bs i o out r fs′ bs′ out′ h = record { text = h .text; caches = ap₂ cachesIn (h .forward) (h .backward) }
 
 ran-line : (fs bs : List ℕ) (i : ℕ) (l out : List ℕ) (r : ℕ) (fs′ bs′ out′ : List ℕ) → RanLine fs bs i l out r fs′ bs′ out′
-    → Ran fs bs out (printed i (cachesIn fs bs) l) r fs′ bs′ out′
+    → RanAs fs bs out (printed i (cachesIn fs bs) l) r fs′ bs′ out′
 unfolding printed
 ran-line fs bs i l = ran-by (orderOf l .form) fs bs i (orderOf l)
 
 module _ {orders fs bs : List ℕ} (out : List ℕ) {p : Part} (left : p .at < length orders) (can : CanGoOn orders fs bs p)
     {k : ℕ} (found : k ≡ place 10 (rest orders (p .at))) where
   -- a last line without LF
-  pub put-last : {r : ℕ} {out′ : List ℕ} → p .at + k ≡ length orders → Puts out 0 (refusedText (p .order) 1) r out′
+  pub put-last : {r : ℕ} {out′ : List ℕ} → p .at + k ≡ length orders → Puts out 0 (refusedOrder (p .order) 1) r out′
       → PutsNext orders fs bs out p (record { bytes = r; at = p .at + k; order = p .order + 1 }) fs bs out′
   put-last {r} {out′} e t =
       let none : linesText (p .order + 1) (cachesIn fs bs) (drop (p .at + k) orders) ≡ [] =
       ap (λ (n : ℕ). linesText (p .order + 1) (cachesIn fs bs) (drop n orders)) e ∙ lines-past (p .order + 1) (cachesIn fs bs) orders in
       record {
         part = record {
-          text = refusedText (p .order) 1;
+          text = refusedOrder (p .order) 1;
           put = t;
-          rest = last-line (p .order) (cachesIn fs bs) orders (p .at) found left e ∙ sym (append-nil (refusedText (p .order) 1)) ∙ ap (λ (x : List ℕ). refusedText (p .order) 1 ++ x) (sym none);
+          rest = last-line (p .order) (cachesIn fs bs) orders (p .at) found left e ∙ sym (append-nil (refusedOrder (p .order) 1)) ∙ ap (λ (x : List ℕ). refusedOrder (p .order) 1 ++ x) (sym none);
           within = omega arith;
           next = λ h. absurd (omega arith);
         };

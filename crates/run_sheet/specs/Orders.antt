@@ -29,13 +29,13 @@ abbrev pub lineFor : ℕ → AfterSteps → Line
 lineFor i d = record { order = i; answer = answerOf (d .reply); waits = d .waits; tickets = d .tickets }
 
 -- "A refused order prints as `5,refused 3,-,0,0,-`."
-abbrev pub refusedText : ℕ → ℕ → List ℕ
-refusedText i n = lineOf (record { order = i; answer = Refused n; waits = 0; tickets = 0 }) []
+abbrev pub refusedOrder : ℕ → ℕ → List ℕ
+refusedOrder i n = lineOf (record { order = i; answer = Refused n; waits = 0; tickets = 0 }) []
 
 -- the path that `retrace` shows in a slice of 2,047 words, room for the 1,023 moves that a path has at most
 abbrev pub shownText : ℕ → AfterSteps → Reply ℕ → List ℕ → List ℕ
 shownText i d (answered m) path = lineOf (lineFor i d) (take (1 + 2 * m) path)
-shownText i d (refused n line) path = refusedText i n
+shownText i d (refused n line) path = refusedOrder i n
 
 abbrev pub drivenBy : Answer → ℕ → AfterSteps → List ℕ
 drivenBy (Solved k) i d = let r = retrace (d .cache) (d .search) (replicate 2047 0) in shownText i d (r .reply) (r .path)
@@ -51,7 +51,7 @@ pub record Ordered : Type 0 where
   pub text : List ℕ
 
 abbrev pub orderedBy : Reply (Unit {0}) → AfterInitialize → ℕ → Ordered
-orderedBy (refused n line) r i = record { cache = r .cache; text = refusedText i n }
+orderedBy (refused n line) r i = record { cache = r .cache; text = refusedOrder i n }
 -- waits are waiting answers, tickets the sum over the order's steps. So many steps are enough: the line of an order that was opened is a right one
 orderedBy (answered x) r i = let d = solve maxSteps (r .cache) (r .search) in record { cache = d .cache; text = drivenText i d }
 

@@ -22,7 +22,7 @@ use Rattle.sheet.specs.declared.orders.Form.the-variants.{Forward, Backward, Il
 use Rattle.sheet.specs.declared.orders.Order.{Order}
 use Rattle.sheet.specs.Orders.{orderOf}
 use Rattle.sheet.specs.Answers.{Puts, refusedLine}
-use Rattle.run_sheet.specs.Orders.{ordered, refusedText, RightLine}
+use Rattle.run_sheet.specs.Orders.{ordered, refusedOrder, RightLine}
 use Rattle.run_sheet.specs.Whole.{maxBytes, lentWords, lentSlots, listed, Caches, linesText, sheetText}
 use Rattle.run_sheet.specs.declared.Part.{Part}
 use Rattle.run_sheet.specs.declared.files.Bytes.{Bytes}
@@ -39,7 +39,7 @@ pub record InArrays (ss gs : Numbers) : Type 0 where
   pub goals : gs .count ≤ length (gs .numbers)
 
 -- the counts of an order are numbers of at most 10 digits
-pub record Counted (d : StepsTaken) : Type 0 where
+pub record CountsFit (d : StepsTaken) : Type 0 where
   pub waits : d .waits < 10000000000
   pub tickets : d .tickets < 10000000000
 
@@ -66,7 +66,7 @@ pub record RanIn (ws ws′ : List ℕ) (i : ℕ) (o : Order) (out : List ℕ) (r
   pub stays : left′ ≡ ws′
 
 pub record NotRun (fs bs : List ℕ) (i : ℕ) (out : List ℕ) (r : ℕ) (fs′ bs′ out′ : List ℕ) : Type 0 where
-  pub text : Puts out 0 (refusedText i 1) r out′
+  pub text : Puts out 0 (refusedOrder i 1) r out′
   pub forward : fs′ ≡ fs
   pub backward : bs′ ≡ bs
 
@@ -90,7 +90,7 @@ pub record Called (dir : Direction) (g : Graph) (t : ℕ) (ws : List ℕ) : Type
 
 -- a refused order prints the number of its refusal, another one a right line; and the next order finds such words again
 pub record PrintsRight (dir : Direction) (g : Graph) (t i : ℕ) (ws ss gs left text : List ℕ) : Type 0 where
-  pub refusal : (n line : ℕ) → initialize (readCache ws) ss gs .reply ≡ refused n line → text ≡ refusedText i n
+  pub refusal : (n line : ℕ) → initialize (readCache ws) ss gs .reply ≡ refused n line → text ≡ refusedOrder i n
   pub answer : initialize (readCache ws) ss gs .reply ≡ answered tt → RightLine dir g ss gs i text
   pub next : Called dir g t left
 

@@ -17,7 +17,7 @@ use Rattle.sheet.specs.declared.orders.Form.the-variants.{Forward, Backward, Il
 use Rattle.sheet.specs.declared.orders.Order.{Order}
 use Rattle.sheet.specs.Orders.{orderOf}
 use Rattle.sheet.specs.Answers.{refusedLine}
-use Rattle.run_sheet.specs.Orders.{Ordered, ordered, refusedText}
+use Rattle.run_sheet.specs.Orders.{Ordered, ordered, refusedOrder}
 
 -- "reads chart.txt and orders.txt, each at most 65,536 bytes, lends each direction 16,000 words with 16 slots"
 abbrev pub maxBytes : ℕ
@@ -58,7 +58,7 @@ onBackward c r = record { caches = record { forward = c .forward; backward = r .
 abbrev pub printedBy : Form → ℕ → Caches → Order → Printed
 printedBy Forward i c o = onForward c (ordered i (c .forward) (listed (o .starts)) (listed (o .goals)))
 printedBy Backward i c o = onBackward c (ordered i (c .backward) (listed (o .starts)) (listed (o .goals)))
-printedBy Illegal i c o = record { caches = c; text = refusedText i 1 }
+printedBy Illegal i c o = record { caches = c; text = refusedOrder i 1 }
 
 -- order i, whose line l is without its LF
 unfoldable pub printed : ℕ → Caches → List ℕ → Printed
@@ -66,14 +66,14 @@ unfolding orderOf ordered
 printed i c l = printedBy (orderOf l .form) i c (orderOf l)
 
 -- what stands past the last LF is no order if it is empty, and else one without LF
-abbrev pub unended : ℕ → List ℕ → List ℕ
-unended i [] = []
-unended i (x ∷ xs) = refusedText i 1
+abbrev pub unendedText : ℕ → List ℕ → List ℕ
+unendedText i [] = []
+unendedText i (x ∷ xs) = refusedOrder i 1
 
 -- order i stands in the piece l, and those below it in ls
 unfoldable pub linesFrom : ℕ → Caches → List ℕ → List (List ℕ) → List ℕ
 unfolding printed
-linesFrom i c l [] = unended i l
+linesFrom i c l [] = unendedText i l
 linesFrom i c l (p ∷ ps) = let r = printed i c l in r .text ++ linesFrom (suc i) (r .caches) p ps
 
 abbrev pub linesIn : ℕ → Caches → List (List ℕ) → List ℕ

@@ -17,9 +17,9 @@ ghost use mathlib.Core.Bool.{true};
 ghost use Rattle.model.specs.Answers.{stepReply};
 ghost use Rattle.layout.specs.Sound.{soundWordsb};
 ghost use Rattle.sheet.specs.Answers.{Puts};
-ghost use Rattle.run_sheet.specs.Orders.{answerOf, refusedText, drivenText};
+ghost use Rattle.run_sheet.specs.Orders.{answerOf, refusedOrder, drivenText};
 ghost use Rattle.run_sheet.specs.Whole.{listed};
-ghost use Rattle.run_sheet.specs.Sheet.{CanPut, InArrays, Counted, afterSteps, Ran, RanLine, CalledBoth};
+ghost use Rattle.run_sheet.specs.Sheet.{CanPut, InArrays, CountsFit, afterSteps, Ran, RanLine, CalledBoth};
 
 // The words of a path of 1,023 moves, the most there are among 1,024 vertices.
 const MAX_PATH: usize = 2047;
@@ -49,7 +49,7 @@ pub fn put_order(
 // Puts the line of an order that is refused.
 pub fn put_refusal(out: &mut [u8], order: usize, number: u32) -> usize
     requires { ⌜ CanPut order (now out) ⌝ }
-    ensures { λ r. ⌜ Puts (now (out .entry)) 0 (refusedText order number) r (now (out .exit)) ⌝ }
+    ensures { λ r. ⌜ Puts (now (out .entry)) 0 (refusedOrder order number) r (now (out .exit)) ⌝ }
 {
     let line = Line {
         order,
@@ -107,7 +107,7 @@ fn answer_of(answer: StepAnswer) -> Answer
 
 // A solved order's line shows its path.
 fn put_driven(words: &[u32], order: usize, taken: StepsTaken, out: &mut [u8]) -> usize
-    requires { ⌜ CanPut order (now out) × (Counted taken × (soundWordsb (now words) ≡ true)) ⌝ }
+    requires { ⌜ CanPut order (now out) × (CountsFit taken × (soundWordsb (now words) ≡ true)) ⌝ }
     ensures { λ r. ⌜ Puts (now (out .entry)) 0 (drivenText order (afterSteps taken (now (words .entry)))) r (now (out .exit)) ⌝ }
 {
     let last = taken.answer;
