@@ -35,8 +35,8 @@ use Rattle.sheet.specs.Orders.{orderOf}
 use Rattle.sheet.specs.Answers.{Puts, refusedLine}
 use Rattle.run_sheet.specs.declared.Part.{Part}
 use Rattle.run_sheet.specs.Orders.{refusedOrder}
-use Rattle.run_sheet.specs.Whole.{lentWords, lentSlots, title, Caches, Printed, printedBy, printed, linesFrom, linesIn, linesText, ordersText, chartText, freshBoth, isOverlong, filesText, sheetText}
-use Rattle.run_sheet.specs.Sheet.{RanBy, RanLine, cachesIn, CanGoOn, PutsPart, RefusedPart, Begins, PutsNext, Written, Parts, no-more, one-more, WritesSheet}
+use Rattle.run_sheet.specs.Whole.{lentWords, lentSlots, title, Caches, PrintedOrder, printedOrderBy, printedOrder, linesFrom, linesIn, linesText, ordersText, chartText, freshBoth, isOverlong, filesText, sheetText}
+use Rattle.run_sheet.specs.Sheet.{RanBy, RanLine, cachesIn, CanGoOn, PutsPart, RefusedPart, Begins, PutsNext, WrittenSoFar, Parts, no-more, one-more, WritesSheet}
 use Rattle.run_sheet.proofs.Called.{called-both, called-after}
 
 -- ---- the lines of a text, line by line
@@ -56,12 +56,12 @@ lines-past i c l = ap (linesText i c) (all-dropped l) ∙ lines-none i c
         go (y ∷ ys) e = absurd (omega arith)
 
 lines-cut : (i : ℕ) (c : Caches) (l : List ℕ) → place 10 l < length l
-    → let r = printed i c (take (place 10 l) l) in
+    → let r = printedOrder i c (take (place 10 l) l) in
     linesText i c l ≡ r .text ++ linesText (suc i) (r .caches) (drop (place 10 l + 1) l)
 unfolding linesText
 lines-cut i c l h =
     ap (linesIn i c) (parted-cut 10 l h)
-    ∙ parted-some (λ ps. linesFrom i c (take (place 10 l) l) ps ≡ (let r = printed i c (take (place 10 l) l) in r .text ++ linesIn (suc i) (r .caches) ps))
+    ∙ parted-some (λ ps. linesFrom i c (take (place 10 l) l) ps ≡ (let r = printedOrder i c (take (place 10 l) l) in r .text ++ linesIn (suc i) (r .caches) ps))
     (λ p ps. refl) 10 (drop (place 10 l + 1) l)
 
 lines-whole : (i : ℕ) (c : Caches) (l : List ℕ) → 0 < length l → place 10 l ≡ length l → linesText i c l ≡ refusedOrder i 1
@@ -78,7 +78,7 @@ module _ (i : ℕ) (c : Caches) (text : List ℕ) (at : ℕ) {p : ℕ} (found : 
   last-line h e = lines-whole i c (drop at text) (omega (arith, length-drop at text)) (omega (arith, place-at, length-drop at text))
 
   next-line : at + p < length text
-      → let r = printed i c (take (at + p - at) (drop at text)) in
+      → let r = printedOrder i c (take (at + p - at) (drop at text)) in
       linesText i c (drop at text) ≡ r .text ++ linesText (i + 1) (r .caches) (drop (at + p + 1) text)
   next-line h =
       let line : place 10 (drop at text) ≡ at + p - at = omega (arith, place-at) in
@@ -87,17 +87,17 @@ module _ (i : ℕ) (c : Caches) (text : List ℕ) (at : ℕ) {p : ℕ} (found : 
       drop-drop (place 10 (drop at text) + 1) at text ∙ ap (λ (n : ℕ). drop n text) past in
       rw add-one
       (lines-cut i c (drop at text) (omega (arith, place-at, length-drop at text))
-      ∙ ap₂ (λ (n : ℕ) (x : List ℕ). let r = printed i c (take n (drop at text)) in r .text ++ linesText (suc i) (r .caches) x) line below)
+      ∙ ap₂ (λ (n : ℕ) (x : List ℕ). let r = printedOrder i c (take n (drop at text)) in r .text ++ linesText (suc i) (r .caches) x) line below)
 
 -- ---- a part that is put
 
 -- an order that was run is as it is printed
-record RanAs (fs bs : List ℕ) (out : List ℕ) (x : Printed) (r : ℕ) (fs′ bs′ out′ : List ℕ) : Type 0 where
+record RanAs (fs bs : List ℕ) (out : List ℕ) (x : PrintedOrder) (r : ℕ) (fs′ bs′ out′ : List ℕ) : Type 0 where
   text : Puts out 0 (x .text) r out′
   caches : cachesIn fs′ bs′ ≡ x .caches
 
 ran-by : (f : Form) (fs bs : List ℕ) (i : ℕ) (o : Order) (out : List ℕ) (r : ℕ) (fs′ bs′ out′ : List ℕ) → RanBy f fs bs i o out r fs′ bs′ out′
-    → RanAs fs bs out (printedBy f i (cachesIn fs bs) o) r fs′ bs′ out′
+    → RanAs fs bs out (printedOrderBy f i (cachesIn fs bs) o) r fs′ bs′ out′
 ran-by Forward fs bs i o out r fs′ bs′ out′ h = record {
   text = h .ran .text;
   caches = λ j. record { forward = h .ran .cache j; backward = ap readCache (h .stays) j };
@@ -109,8 +109,8 @@ ran-by Backward fs bs i o out r fs′ bs′ out′ h = record {
 ran-by Illegal fs bs i o out r fs′ bs′ out′ h = record { text = h .text; caches = ap₂ cachesIn (h .forward) (h .backward) }
 
 ran-line : (fs bs : List ℕ) (i : ℕ) (l out : List ℕ) (r : ℕ) (fs′ bs′ out′ : List ℕ) → RanLine fs bs i l out r fs′ bs′ out′
-    → RanAs fs bs out (printed i (cachesIn fs bs) l) r fs′ bs′ out′
-unfolding printed
+    → RanAs fs bs out (printedOrder i (cachesIn fs bs) l) r fs′ bs′ out′
+unfolding printedOrder
 ran-line fs bs i l = ran-by (orderOf l .form) fs bs i (orderOf l)
 
 module _ {orders fs bs : List ℕ} (out : List ℕ) {p : Part} (left : p .at < length orders) (can : CanGoOn orders fs bs p)
@@ -138,7 +138,7 @@ module _ {orders fs bs : List ℕ} (out : List ℕ) {p : Part} (left : p .at < l
   put-line {r} {fs′} {bs′} {out′} e h =
       let inside : p .at + k < length orders = omega (arith, place-within orders (p .at) found) in
       let ran = ran-line fs bs (p .order) _ out r fs′ bs′ out′ h in
-      let x : Printed = printed (p .order) (cachesIn fs bs) (take (p .at + k - p .at) (drop (p .at) orders)) in
+      let x : PrintedOrder = printedOrder (p .order) (cachesIn fs bs) (take (p .at + k - p .at) (drop (p .at) orders)) in
       record {
         part = record {
           text = x .text;
@@ -238,11 +238,11 @@ module _ (chart orders : List ℕ) where
 
 -- ---- the parts one after the other
 
-pub written-first : {chart orders out fs bs out′ : List ℕ} {p : Part} → Begins chart orders out p fs bs out′ → Written chart orders fs bs p
+pub written-first : {chart orders out fs bs out′ : List ℕ} {p : Part} → Begins chart orders out p fs bs out′ → WrittenSoFar chart orders fs bs p
 written-first x = record { before = x .text; rest = x .rest; within = x .within; next = x .next }
 
-pub written-next : {chart orders out fs bs : List ℕ} {p : Part} → Written chart orders fs bs p
-    → {q : Part} {fs′ bs′ out′ : List ℕ} → PutsNext orders fs bs out p q fs′ bs′ out′ → Written chart orders fs′ bs′ q
+pub written-next : {chart orders out fs bs : List ℕ} {p : Part} → WrittenSoFar chart orders fs bs p
+    → {q : Part} {fs′ bs′ out′ : List ℕ} → PutsNext orders fs bs out p q fs′ bs′ out′ → WrittenSoFar chart orders fs′ bs′ q
 written-next {orders = orders} w {q} {fs′} {bs′} x = record {
   before = w .before ++ x .part .text;
   rest = w .rest ∙ ap (λ (l : List ℕ). w .before ++ l) (x .part .rest)

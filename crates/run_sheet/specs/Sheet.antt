@@ -156,7 +156,7 @@ pub record PutsNext (orders fs bs out : List ℕ) (p q : Part) (fs′ bs′ out�
   pub further : p .at < q .at
 
 -- so the parts one after the other are the sheet: some were written, and p is the last of them
-pub record Written (chart orders fs bs : List ℕ) (p : Part) : Type 0 where
+pub record WrittenSoFar (chart orders fs bs : List ℕ) (p : Part) : Type 0 where
   pub before : List ℕ
   pub rest : sheetText chart orders ≡ before ++ linesText (p .order) (cachesIn fs bs) (drop (p .at) orders)
   pub within : p .at ≤ length orders

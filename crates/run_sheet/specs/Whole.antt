@@ -40,7 +40,7 @@ pub record Caches : Type 0 where
   pub forward : Cache
   pub backward : Cache
 
-pub record Printed : Type 0 where
+pub record PrintedOrder : Type 0 where
   pub caches : Caches
   pub text : List ℕ
 
@@ -48,22 +48,22 @@ pub record Printed : Type 0 where
 abbrev pub listed : Numbers → List ℕ
 listed x = take (x .count) (x .numbers)
 
-abbrev pub onForward : Caches → Ordered → Printed
+abbrev pub onForward : Caches → Ordered → PrintedOrder
 onForward c r = record { caches = record { forward = r .cache; backward = c .backward }; text = r .text }
 
-abbrev pub onBackward : Caches → Ordered → Printed
+abbrev pub onBackward : Caches → Ordered → PrintedOrder
 onBackward c r = record { caches = record { forward = c .forward; backward = r .cache }; text = r .text }
 
 -- "An order without this form is refused 1, before any opening."
-abbrev pub printedBy : Form → ℕ → Caches → Order → Printed
-printedBy Forward i c o = onForward c (ordered i (c .forward) (listed (o .starts)) (listed (o .goals)))
-printedBy Backward i c o = onBackward c (ordered i (c .backward) (listed (o .starts)) (listed (o .goals)))
-printedBy Illegal i c o = record { caches = c; text = refusedOrder i 1 }
+abbrev pub printedOrderBy : Form → ℕ → Caches → Order → PrintedOrder
+printedOrderBy Forward i c o = onForward c (ordered i (c .forward) (listed (o .starts)) (listed (o .goals)))
+printedOrderBy Backward i c o = onBackward c (ordered i (c .backward) (listed (o .starts)) (listed (o .goals)))
+printedOrderBy Illegal i c o = record { caches = c; text = refusedOrder i 1 }
 
 -- order i, whose line l is without its LF
-unfoldable pub printed : ℕ → Caches → List ℕ → Printed
+unfoldable pub printedOrder : ℕ → Caches → List ℕ → PrintedOrder
 unfolding orderOf ordered
-printed i c l = printedBy (orderOf l .form) i c (orderOf l)
+printedOrder i c l = printedOrderBy (orderOf l .form) i c (orderOf l)
 
 -- what stands past the last LF is no order if it is empty, and else one without LF
 abbrev pub unendedText : ℕ → List ℕ → List ℕ
@@ -72,9 +72,9 @@ unendedText i (x ∷ xs) = refusedOrder i 1
 
 -- order i stands in the piece l, and those below it in ls
 unfoldable pub linesFrom : ℕ → Caches → List ℕ → List (List ℕ) → List ℕ
-unfolding printed
+unfolding printedOrder
 linesFrom i c l [] = unendedText i l
-linesFrom i c l (p ∷ ps) = let r = printed i c l in r .text ++ linesFrom (suc i) (r .caches) p ps
+linesFrom i c l (p ∷ ps) = let r = printedOrder i c l in r .text ++ linesFrom (suc i) (r .caches) p ps
 
 abbrev pub linesIn : ℕ → Caches → List (List ℕ) → List ℕ
 linesIn i c [] = []

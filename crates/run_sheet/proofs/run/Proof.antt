@@ -6,7 +6,7 @@ use borrow.Author.Needs.{needs}
 use native.Mathlib.Omega.{arith}
 use lib.ListN.{length}
 use Rattle.run_sheet.specs.Whole.{lentWords}
-use Rattle.run_sheet.specs.Sheet.{Written}
+use Rattle.run_sheet.specs.Sheet.{WrittenSoFar}
 use Rattle.run_sheet.proofs.Within.{put-within}
 use Rattle.run_sheet.proofs.Whole.{written-first, written-next}
 use Rattle.run_sheet.proofs.run.Statement.{statement}
@@ -14,7 +14,7 @@ use Rattle.run_sheet.proofs.run.Tie as tie
 
 abbrev Inv-loop : tie.InvT-loop
 Inv-loop chart orders forward₀ backward₀ out₀ part₀ first forward backward out part =
-    (length forward ≡ lentWords) × ((length backward ≡ lentWords) × ((length out ≡ 24576) × Written chart orders forward backward part))
+    (length forward ≡ lentWords) × ((length backward ≡ lentWords) × ((length out ≡ 24576) × WrittenSoFar chart orders forward backward part))
 
 abbrev μ-loop : tie.MeasureT-loop
 μ-loop chart orders forward₀ backward₀ out₀ part₀ first forward backward out part = length orders - part .at
