@@ -15,7 +15,7 @@ use Rattle.model.specs.Path.{path, words}
 use Rattle.model.specs.Sound.{soundTreesb}
 use Rattle.model.specs.Search.{blank, entryOf}
 use Rattle.model.specs.Calls.{Cache, opened, withTrees, firstFault, initializeFaults, initialize, retrace}
-use Rattle.model.specs.Solve.{isWaiting, AfterSteps, solve, maxSteps}
+use Rattle.model.specs.Solve.{isWaiting, AfterSteps, solve}
 use Rattle.model.specs.Demands.{waitLimit}
 use Rattle.model.specs.Reference as reference
 
@@ -49,12 +49,13 @@ told d =
 abbrev pub turnedAway : Cache → ℕ → Told
 turnedAway c n = record { cache = c; reply = refused n 0; waits = 0; tickets = 0; path = [] }
 
+-- eight steps are enough for each order below
 unfoldable pub order : Cache → List ℕ → List ℕ → Told
 unfolding told solve initialize
 order c ss gs =
     let r = initialize c ss gs in
     elim (r .reply) [
-      | answered u ↦ told (solve maxSteps (r .cache) (r .search))
+      | answered u ↦ told (solve 8 (r .cache) (r .search))
       | refused n line ↦ record { cache = r .cache; reply = refused n line; waits = 0; tickets = 0; path = [] }
     ]
 
