@@ -19,6 +19,7 @@ pub mod Faults
 pub mod Keeps
 pub mod Rounds
 pub mod Valid
+pub mod Strange
 pub mod Tickets
 pub mod Demand1
 pub mod Opens

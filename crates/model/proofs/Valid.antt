@@ -37,7 +37,7 @@ every-at p [] e i h = absurd (omega arith)
 every-at p (x ∷ xs) e zero h = and-true (p x) (everyb p xs) e .0
 every-at p (x ∷ xs) e (suc i) h = every-at p xs (and-true (p x) (everyb p xs) e .1) i (omega arith)
 
-at-every : (p : TreeMemory → Bool) (es : List TreeMemory) → ((i : ℕ) → i < length es → p (getD es i blank) ≡ true) → everyb p es ≡ true
+pub at-every : (p : TreeMemory → Bool) (es : List TreeMemory) → ((i : ℕ) → i < length es → p (getD es i blank) ≡ true) → everyb p es ≡ true
 unfolding everyb
 at-every p [] f = refl
 at-every p (x ∷ xs) f = true-and (p x) (everyb p xs) (f 0 (omega arith)) (at-every p xs (λ i h. f (suc i) (omega arith)))
@@ -55,7 +55,7 @@ holds-at : (gs : List ℕ) (t : Tree) (n : ℕ) → closesGoal gs t n ≡ true �
 unfolding closesGoal
 holds-at gs t n e = let r = and-true _ _ e in record { sought = r .0; closes = eqb-true _ _ (r .1) }
 
-at-holds : (gs : List ℕ) (t : Tree) (n : ℕ) → Holds gs t n → closesGoal gs t n ≡ true
+pub at-holds : (gs : List ℕ) (t : Tree) (n : ℕ) → Holds gs t n → closesGoal gs t n ≡ true
 unfolding closesGoal
 at-holds gs t n h = true-and _ _ (h .sought) (eq-eqb _ _ (h .closes))
 
@@ -109,7 +109,7 @@ valid-at d ts s e =
 -- ---- the least of the solutions held
 
 -- k or more, or nothing
-abbrev Low : ℕ → CostBound → Type 0
+abbrev pub Low : ℕ → CostBound → Type 0
 Low k Unbounded = Unit {0}
 Low k (Bound a) = k ≤ a
 
@@ -139,7 +139,7 @@ lesser-right k (Bound x) p = go (leb x k) refl
     go false e = refl
 
 module _ (d : Domain) (ts : List Tree) where
-  abbrev heldBy : TreeMemory → CostBound
+  abbrev pub heldBy : TreeMemory → CostBound
   heldBy e = heldCost d (tree ts (e .tree)) (e .solution)
 
   low-all : (k : ℕ) (es : List TreeMemory) → ((i : ℕ) → i < length es → Low k (heldBy (getD es i blank))) → Low k (leastHeld d ts es)
@@ -147,14 +147,14 @@ module _ (d : Domain) (ts : List Tree) where
   low-all k [] f = tt
   low-all k (e ∷ es) f = lesser-low k (heldBy e) (leastHeld d ts es) (f 0 (omega arith)) (low-all k es (λ i h. f (suc i) (omega arith)))
 
-  least-some : (k : ℕ) (es : List TreeMemory) → ((i : ℕ) → i < length es → Low k (heldBy (getD es i blank))) → (j : ℕ) → j < length es → heldBy (getD es j blank) ≡ Bound k
+  pub least-some : (k : ℕ) (es : List TreeMemory) → ((i : ℕ) → i < length es → Low k (heldBy (getD es i blank))) → (j : ℕ) → j < length es → heldBy (getD es j blank) ≡ Bound k
       → leastHeld d ts es ≡ Bound k
   unfolding leastHeld
   least-some k [] f j h z = absurd (omega arith)
   least-some k (e ∷ es) f zero h z = rw z (lesser-left k (leastHeld d ts es) (low-all k es (λ i h. f (suc i) (omega arith))))
   least-some k (e ∷ es) f (suc j) h z = rw (least-some k es (λ i h. f (suc i) (omega arith)) j (omega arith) z) (lesser-right k (heldBy e) (f 0 (omega arith)))
 
-  least-none : (es : List TreeMemory) → ((i : ℕ) → i < length es → heldBy (getD es i blank) ≡ Unbounded) → leastHeld d ts es ≡ Unbounded
+  pub least-none : (es : List TreeMemory) → ((i : ℕ) → i < length es → heldBy (getD es i blank) ≡ Unbounded) → leastHeld d ts es ≡ Unbounded
   unfolding leastHeld
   least-none [] f = refl
   least-none (e ∷ es) f = rw (f 0 (omega arith)) (least-none es (λ i h. f (suc i) (omega arith)))

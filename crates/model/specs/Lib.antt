@@ -7,6 +7,7 @@ pub mod Path
 pub mod Sound
 pub mod Search
 pub mod Valid
+pub mod Strange
 pub mod Calls
 pub mod Solve
 pub mod Demands
