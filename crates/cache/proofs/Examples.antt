@@ -18,7 +18,7 @@ use Rattle.cache.specs.Open.{AfterOpen, openCache, Opening}
 
 -- 01's chart needs 53 words with one slot; n words of 7 are lent
 unfoldable lent : ℕ → ℕ → ℕ → AfterOpen
-unfolding openCache bytes
+unfolding openCache
 lent n direction slots = openCache (replicate n 7) (bytes exampleText) direction slots
 
 unfoldable refusedWith : ℕ → ℕ → ℕ → AfterOpen
@@ -84,11 +84,11 @@ slots-64-short = refl
 
 -- a limit before a line, a line before the words
 limit-before-line : openCache (replicate 3 7) (bytes "N\n") 0 65 ≡ refusedWith 3 4 0
-unfolding openCache bytes refusedWith
+unfolding openCache refusedWith
 limit-before-line = refl
 
 line-before-words : openCache (replicate 3 7) (bytes "M,0,0\nM,2,0\n") 1 1 ≡ refusedWith 3 2 2
-unfolding openCache bytes refusedWith
+unfolding openCache refusedWith
 line-before-words = refl
 
 -- the graph without vertices
@@ -156,17 +156,17 @@ reads-tree = refl
 
 -- an opening that writes nothing
 no-word-written : Opening (replicate 55 7) (bytes exampleText) 0 1 Opened (replicate 55 7) → ⊥
-unfolding openCache bytes
+unfolding openCache
 no-word-written p = let e : _≡_ {A = ℕ} 7 0 = ap (λ (x : AfterOpen). getD (x .words) 0 0) p in omega arith
 
 -- a header written before the fault of the second line was found
 header-before-fault : Opening (replicate 3 7) (bytes "M,0,0\nM,2,0\n") 0 1 (Refused OutOfOrder 2) (0 ∷ 7 ∷ 7 ∷ []) → ⊥
-unfolding openCache bytes
+unfolding openCache
 header-before-fault p = let e : _≡_ {A = ℕ} 0 7 = ap (λ (x : AfterOpen). getD (x .words) 0 0) p in omega arith
 
 -- every opening refused
 always-refused : Opening (replicate 55 7) (bytes exampleText) 0 1 (Refused OverLimit 0) (replicate 55 7) → ⊥
-unfolding openCache bytes
+unfolding openCache
 always-refused p = answered-refused tt 4 0 (sym (ap (λ (x : AfterOpen). x .reply) p))
 
 -- a word past those needed cleared as well

@@ -8,7 +8,7 @@ use lib.ListN.{length, getD, take, replicate, length-append, length-replicate, g
 use lib.Seq.{getD-append-add}
 use Rattle.model.specs.Graph.{Graph, Direction, Domain, domain, Accepted, vertexCount, edgeCount, from, to, cost, edgeNumbers}
 use Rattle.model.proofs.Reversed.{domain-counts}
-use Rattle.layout.specs.Layout.{initialAt, edgesAt, placesAt, numbersAt, slotsAt, treeWords}
+use Rattle.layout.specs.Layout.{placesAt, numbersAt, slotsAt, treeWords, fromIn, toIn, edgeCostIn, initialIn, placeIn, numberIn}
 use Rattle.layout.specs.Words.{headerOf, edgeWords, firstPlace, firstPlaces, openedWords}
 use Rattle.layout.proofs.Edges.{edge-words-length, from-word, to-word, cost-word}
 use Rattle.graph.proofs.Lines.{held-initial}
@@ -46,19 +46,19 @@ module _ (dir : Direction) (g : Graph) (t : ℕ) (rest : List ℕ) where
   apart = simp append-assoc
 
   -- initial costs are as in the text, in both directions
-  pub initial-word : (v : ℕ) → v < m → getD ws (initialAt + v) 0 ≡ getD (g .initial) v 0
+  pub initial-word : (v : ℕ) → v < m → initialIn ws v ≡ getD (g .initial) v 0
   initial-word v h =
-      ap (λ (x : List ℕ). getD x (initialAt + v) 0) apart
+      ap (λ (x : List ℕ). initialIn x v) apart
       ∙ word-behind (headerOf dir m l t) (d .graph .initial) _ 5 v refl (omega (arith, domain-counts dir g .0))
       ∙ ap (λ (x : List ℕ). getD x v 0) (held-initial dir g)
 
-  pub from-edge : (e : ℕ) → e < l → getD ws (edgesAt m + 3 * e) 0 ≡ from (d .graph) e
+  pub from-edge : (e : ℕ) → e < l → fromIn m ws e ≡ from (d .graph) e
   from-edge e h = sym (from-word m l ws e h) ∙ ap (λ (x : Graph). from x e) (opened-graph dir g t rest)
 
-  pub to-edge : (e : ℕ) → e < l → getD ws (edgesAt m + 3 * e + 1) 0 ≡ to (d .graph) e
+  pub to-edge : (e : ℕ) → e < l → toIn m ws e ≡ to (d .graph) e
   to-edge e h = sym (to-word m l ws e h) ∙ ap (λ (x : Graph). to x e) (opened-graph dir g t rest)
 
-  pub cost-edge : (e : ℕ) → e < l → getD ws (edgesAt m + 3 * e + 2) 0 ≡ cost (d .graph) e
+  pub cost-edge : (e : ℕ) → e < l → edgeCostIn m ws e ≡ cost (d .graph) e
   cost-edge e h = sym (cost-word m l ws e h) ∙ ap (λ (x : Graph). cost x e) (opened-graph dir g t rest)
 
   -- the words before the first places
@@ -77,16 +77,16 @@ module _ (dir : Direction) (g : Graph) (t : ℕ) (rest : List ℕ) where
   split : ws ≡ edged ++ (firstPlaces d ++ (edgeNumbers d ++ (zeros ++ rest)))
   split = apart ∙ simp append-assoc
 
-  pub place-word : (v : ℕ) → v ≤ m → getD ws (placesAt m l + v) 0 ≡ firstPlace d v
+  pub place-word : (v : ℕ) → v ≤ m → placeIn m l ws v ≡ firstPlace d v
   place-word v h =
-      ap (λ (x : List ℕ). getD x (placesAt m l + v) 0) split
+      ap (λ (x : List ℕ). placeIn m l x v) split
       ∙ word-behind edged (firstPlaces d) (edgeNumbers d ++ (zeros ++ rest)) (placesAt m l) v edged-length
       (omega (arith, first-places-length d, domain-counts dir g))
       ∙ first-place-at d v (omega (arith, domain-counts dir g))
 
-  pub number-word : Accepted g → (i : ℕ) → i < l → getD ws (numbersAt m l + i) 0 ≡ getD (edgeNumbers d) i 0
+  pub number-word : Accepted g → (i : ℕ) → i < l → numberIn m l ws i ≡ getD (edgeNumbers d) i 0
   number-word ok i h =
-      ap (λ (x : List ℕ). getD x (numbersAt m l + i) 0) (split ∙ sym (append-assoc edged (firstPlaces d) (edgeNumbers d ++ (zeros ++ rest))))
+      ap (λ (x : List ℕ). numberIn m l x i) (split ∙ sym (append-assoc edged (firstPlaces d) (edgeNumbers d ++ (zeros ++ rest))))
       ∙ word-behind (edged ++ firstPlaces d) (edgeNumbers d) (zeros ++ rest) (numbersAt m l) i
       (omega (arith, length-append edged (firstPlaces d), edged-length, first-places-length d, domain-counts dir g))
       (omega (arith, edge-numbers-length dir g ok))

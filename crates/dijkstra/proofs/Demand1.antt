@@ -20,9 +20,10 @@ use Rattle.model.specs.Demands.{RefusedInitialize, RefusedStep, RefusedRetrace}
 use Rattle.model.proofs.Demand1.{demand-1 as model-demand-1}
 use Rattle.layout.specs.Read.{directionOf, readCache}
 use Rattle.layout.specs.Sound.{soundWordsb}
-use Rattle.checked.specs.Step.{Leaves}
+use Rattle.unchecked.specs.Step.{Leaves}
 use Rattle.dijkstra.specs.Calls.{initializeIf, initializeWords, initializedWords, Initializing, stepSoundIf, stepWords, Stepping, retraceIf, retraceWords, Retracing}
 use Rattle.dijkstra.specs.Demands.{Demand1}
+use Rattle.layout.specs.Layout.{directionIn}
 
 -- ---- the model's law, with refusal 7 before it
 
@@ -45,7 +46,7 @@ initialize-leaves : (ws ss gs : List ℕ) (r : SearchOpened) (left : List ℕ) �
 initialize-leaves ws ss gs r left p f line e =
     let reply : initializeWords ws ss gs .reply ≡ refused (number f) line = sym (p .answer) ∙ ap initializeReply e in
     let kept = initialize-refused (soundWordsb ws) (readCache ws) ss gs (number f) line reply in
-    (p .words ∙ ap (λ (x : Reply (Unit {0})). initializedWords x ws (rootsOf (directionOf (getD ws 0 0)) ss gs)) reply, (p .search ∙ kept .search, kept .lines))
+    (p .words ∙ ap (λ (x : Reply (Unit {0})). initializedWords x ws (rootsOf (directionOf (directionIn ws)) ss gs)) reply, (p .search ∙ kept .search, kept .lines))
 
 step-leaves : (ws : List ℕ) (s : Search) (r : Stepped) (left : List ℕ) → Stepping ws s r left
     → (f : Refusal) (line : ℕ) → r .answer ≡ stepping.Refused f line → (left ≡ ws) × ((r .search ≡ s) × ((r .tickets ≡ 0) × (line ≡ 0)))

@@ -18,18 +18,19 @@ use Rattle.model.specs.Valid.{valid}
 use Rattle.model.specs.Calls.{Cache, AfterStep, orElse, stepBy, step}
 use Rattle.model.proofs.Replies.{step-told, answered-refused}
 use Rattle.model.proofs.Valid.{valid-at}
-use Rattle.layout.specs.Layout.{slotsAt, queueAt, slotAt, treeWords}
+use Rattle.layout.specs.Layout.{slotsAt, queueAt, slotAt, treeWords, edgesIn, queuedIn, slotsIn, treesIn, verticesIn}
 use Rattle.layout.specs.Read.{treeIn, readCache}
-use Rattle.layout.specs.Sound.{slotWords, soundWordsb}
+use Rattle.layout.specs.Sound.{soundWordsb}
 use Rattle.layout.proofs.Places.{part-at}
+use Rattle.layout.specs.Slots.{slotWords}
 use Rattle.tree.specs.Tree.{Formed}
 use Rattle.tree.proofs.Same.{tree-of}
 use Rattle.tree.proofs.Determined.{words-determined}
 use Rattle.sound.specs.Facts.{SoundIn}
 use Rattle.sound.proofs.Slots.{slot-length}
 use Rattle.sound.proofs.Facts.{sound-words-at, trees-length, tree-read}
-use Rattle.turn.specs.Turn.{InSlot, Apart}
-use Rattle.checked.specs.Step.{Leaves}
+use Rattle.entry_turns.specs.Turn.{InSlot, Apart}
+use Rattle.unchecked.specs.Step.{Leaves}
 use Rattle.dijkstra.specs.Calls.{stepSoundIf, stepWords}
 use Rattle.dijkstra.specs.Demands.{QueueWord, Determined}
 use Rattle.dijkstra.proofs.Histories.{step-is}
@@ -44,7 +45,7 @@ module _ (m l k : ℕ) (a b : List ℕ) (f : Formed l (slotWords m l k a)) (g : 
   slot-determined na nb same i h free =
       let s : List ℕ = slotWords m l k a in
       let t : List ℕ = slotWords m l k b in
-      let queued : getD s 2 0 ≡ getD a (slotAt m l k + 2) 0 = part-at (slotAt m l k) (treeWords m l) a 2 (omega arith) in
+      let queued : queuedIn s ≡ getD a (slotAt m l k + 2) 0 = part-at (slotAt m l k) (treeWords m l) a 2 (omega arith) in
       sym (part-at (slotAt m l k) (treeWords m l) a i h)
       ∙ words-determined l s t f g (na ∙ sym nb) (tree-of m l s na ∙ same ∙ sym (tree-of m l t nb)) i (subst (λ (q : ℕ). (i < queueAt l) ⊎ (queueAt l + q ≤ i)) (sym queued) free)
       ∙ part-at (slotAt m l k) (treeWords m l) b i h
@@ -68,19 +69,19 @@ valid-if c s a = go (valid (c .domain) (c .trees) s)
 
 module _ (ws : List ℕ) (s : Search) where
   abbrev m : ℕ
-  m = getD ws 1 0
+  m = verticesIn ws
 
   abbrev l : ℕ
-  l = getD ws 2 0
+  l = edgesIn ws
 
   abbrev u : ℕ
-  u = getD ws 4 0
+  u = treesIn ws
 
   -- the words before the slots are in none
   before : (left : List ℕ) → Apart ws s left → (j : ℕ) → j < slotsAt m l → getD left j 0 ≡ getD ws j 0
   before left a j h = a .word j (λ x. omega (arith, x .from))
 
-  left-sound : (left : List ℕ) → Apart ws s left → soundWordsb left ≡ true → SoundIn m l (getD left 3 0) u left
+  left-sound : (left : List ℕ) → Apart ws s left → soundWordsb left ≡ true → SoundIn m l (slotsIn left) u left
   left-sound left a z =
       let h = sound-words-at left z in
       rw (before left a 1 (omega arith), before left a 2 (omega arith), before left a 4 (omega arith)) at h
@@ -97,8 +98,8 @@ module _ (ws : List ℕ) (s : Search) where
         let p = left-sound left a y in
         let q = left-sound left′ b z in
         slot-determined m l k left left′ (p .formed k h) (q .formed k h)
-        (slot-length m l left {i = k} {n = getD left 3 0} (omega (arith, p .used)) (p .fits))
-        (slot-length m l left′ {i = k} {n = getD left′ 3 0} (omega (arith, q .used)) (q .fits))
+        (slot-length m l left {i = k} {n = slotsIn left} (omega (arith, p .used)) (p .fits))
+        (slot-length m l left′ {i = k} {n = slotsIn left′} (omega (arith, q .used)) (q .fits))
         (sym (left-tree left a k h) ∙ ap (λ (c : Cache). tree (c .trees) k) cache ∙ left-tree left′ b k h)
         i
 

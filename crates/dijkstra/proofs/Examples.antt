@@ -17,13 +17,16 @@ use Rattle.model.specs.declared.Search.{Search}
 use Rattle.model.specs.declared.SearchOpened.{SearchOpened}
 use Rattle.model.specs.Answers.{Reply, answered, refused, Status, waiting, solved, noPath}
 use Rattle.model.specs.Path.{path, words}
+use Rattle.model.specs.Worth.{weight, solutionCostOf}
 use Rattle.model.specs.Search.{entry, withEntry, withFind, withKnownLen, withExhausted}
 use Rattle.model.specs.Calls.{initialize, step, retrace}
 use Rattle.layout.specs.Read.{readCache}
 use Rattle.layout.specs.Sound.{soundWordsb}
 use Rattle.layout.proofs.Examples.{sample}
-use Rattle.plant.specs.Plant.{plantedAll}
-use Rattle.dijkstra.specs.Calls.{initializeWords, initializedWords, Initializing, stepWords, Stepping, retraceWords, notOpened}
+use Rattle.new_trees.specs.Plant.{plantedAll}
+use Rattle.unchecked.specs.Initialize.{notOpened}
+use Rattle.dijkstra.specs.Calls.{initializeWords, initializedWords, Initializing, stepWords, Stepping, retraceWords}
+use Rattle.layout.specs.Layout.{treesIn}
 
 -- 01's chart with three slots, none of them in use
 unfoldable pub bare : List ℕ
@@ -50,7 +53,7 @@ full = refl
 
 -- the tree of 0 is there, the one of 1 too: no word changes
 shared : initializedWords (initializeWords sample (0 ∷ 1 ∷ 0 ∷ []) (2 ∷ []) .reply) sample (0 ∷ 1 ∷ 0 ∷ []) ≡ sample
-unfolding soundWordsb sample initialize plantedAll
+unfolding soundWordsb sample initialize plantedAll weight solutionCostOf
 shared = refl
 
 -- two new trees, in the next slots; 2 has no initial cost
@@ -78,12 +81,12 @@ unfolding soundWordsb words0 search0 step
 steps = refl
 
 takes-3 : stepWords words0 search0 .tickets ≡ 3
-unfolding soundWordsb words0 search0 step
+unfolding soundWordsb words0 search0 step weight solutionCostOf
 takes-3 = refl
 
 -- the find is node 3, which came by 1 at cost 7, and not node 2, which was queued first at cost 9
 finds-7 : stepWords words0 search0 .search .«best_solution» ≡ Best 0 3
-unfolding soundWordsb words0 search0 step
+unfolding soundWordsb words0 search0 step weight solutionCostOf
 finds-7 = refl
 
 step-unsound : stepWords (set words0 4 0) search0 .reply ≡ refused 7 0
@@ -106,15 +109,15 @@ unfolding soundWordsb sample opened0 step
 finished0 = stepWords sample opened0 .search
 
 no-change : stepWords sample opened0 .cache ≡ readCache sample
-unfolding soundWordsb sample opened0 step readCache
+unfolding soundWordsb sample opened0 step readCache weight solutionCostOf
 no-change = refl
 
 answers : stepWords sample finished0 .reply ≡ answered (solved 0 0)
-unfolding soundWordsb sample finished0 step path
+unfolding soundWordsb sample finished0 step path weight solutionCostOf
 answers = refl
 
 shows : retraceWords sample finished0 (7 ∷ 7 ∷ []) ≡ record { reply = answered 0; path = 0 ∷ 7 ∷ [] }
-unfolding soundWordsb sample finished0 retrace path words
+unfolding soundWordsb sample finished0 retrace path words weight solutionCostOf
 shows = refl
 
 path-unsound : retraceWords (take 106 sample) finished0 (7 ∷ []) ≡ record { reply = refused 7 0; path = 7 ∷ [] }
@@ -122,15 +125,15 @@ unfolding soundWordsb sample
 path-unsound = refl
 
 path-invalid : retraceWords words0 finished0 (7 ∷ []) ≡ record { reply = refused 8 0; path = 7 ∷ [] }
-unfolding soundWordsb words0 finished0 retrace
+unfolding soundWordsb words0 finished0 retrace weight solutionCostOf
 path-invalid = refl
 
 not-solved : retraceWords sample opened0 [] ≡ record { reply = refused 9 0; path = [] }
-unfolding soundWordsb sample opened0 retrace
+unfolding soundWordsb sample opened0 retrace weight solutionCostOf
 not-solved = refl
 
 short-path : retraceWords sample finished0 [] ≡ record { reply = refused 10 0; path = [] }
-unfolding soundWordsb sample finished0 retrace path
+unfolding soundWordsb sample finished0 retrace path weight solutionCostOf
 short-path = refl
 
 -- ---- wrong programs: no promise is met by ..
@@ -179,7 +182,7 @@ remembered = withKnownLen finished0 0 1
 -- "Remembering the count after a find by lookup."
 remembered-after-lookup : (t : ℕ) (left : List ℕ)
     → Stepping sample opened0 (record { answer = stepping.Status Incomplete; tickets = t; search = remembered }) left → ⊥
-unfolding isKnown soundWordsb sample opened0 finished0 step
+unfolding isKnown soundWordsb sample opened0 finished0 step weight solutionCostOf
 remembered-after-lookup t left p = true≢false (ap (λ (s : Search). isKnown (entry s 0 .«last_known_closed_len»)) (p .search))
 
 -- "`shelf full` with slots unused, or every call refused"
@@ -190,4 +193,4 @@ refused-with-slots left p = true≢false (sym (ap isAnswer (p .answer)))
 -- an opening that writes nothing
 no-word-written : (r : SearchOpened) → Initializing bare (0 ∷ []) (2 ∷ []) r bare → ⊥
 unfolding soundWordsb bare initialize plantedAll
-no-word-written r p = absurd (omega (arith, ap (λ (ws : List ℕ). getD ws 4 0) (p .words)))
+no-word-written r p = absurd (omega (arith, ap (λ (ws : List ℕ). treesIn ws) (p .words)))

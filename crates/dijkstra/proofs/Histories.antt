@@ -18,18 +18,18 @@ use Rattle.cache.specs.Demand1.{Opens}
 use Rattle.cache.proofs.Demand1.{demand-1}
 use Rattle.sound.proofs.Opened.{opened-sound}
 use Rattle.dijkstra.specs.Calls.{initializeIf, initializeWords, stepSoundIf, stepWords, retraceIf, retraceWords}
-use Rattle.dijkstra.specs.Demands.{Made, made-initialize, made-step, made-retrace, MadeAll, none-made, and-then, Chain, ends, own-step, own-retrace, between, History}
+use Rattle.dijkstra.specs.Demands.{Made, made-initialize, made-step, made-retrace, made-reading, made-both, MadeAll, none-made, and-then, Chain, ends, own-step, own-retrace, between, History}
 
 -- ---- on sound words each call is the model's
 
 module _ (ws : List ℕ) (ok : soundWordsb ws ≡ true) where
-  initialize-is : (ss gs : List ℕ) → initializeWords ws ss gs ≡ initialize (readCache ws) ss gs
+  pub initialize-is : (ss gs : List ℕ) → initializeWords ws ss gs ≡ initialize (readCache ws) ss gs
   initialize-is ss gs = ap (λ (b : Bool). initializeIf b (readCache ws) ss gs) ok
 
   pub step-is : (s : Search) → stepWords ws s ≡ step (readCache ws) s
   step-is s = ap (λ (b : Bool). stepSoundIf b (readCache ws) s) ok
 
-  retrace-is : (s : Search) (p : List ℕ) → retraceWords ws s p ≡ retrace (readCache ws) s p
+  pub retrace-is : (s : Search) (p : List ℕ) → retraceWords ws s p ≡ retrace (readCache ws) s p
   retrace-is s p = ap (λ (b : Bool). retraceIf b (readCache ws) s p) ok
 
 -- ---- the calls that are no search's own
@@ -39,6 +39,11 @@ unfolding after
 made-is (made-initialize {ws = ws} ss gs r p) ok = (p .sound ∙ ok, p .cache ∙ ap (λ (x : AfterInitialize). x .cache) (initialize-is ws ok ss gs))
 made-is (made-step {ws = ws} s r p) ok = (p .sound ∙ ok, p .cache ∙ ap (λ (x : AfterStep). x .cache) (step-is ws ok s))
 made-is (made-retrace s p r q k) ok = (ok, refl)
+made-is made-reading ok = (ok, refl)
+made-is (made-both {y = y} m k) ok =
+    let first = made-is m ok in
+    let rest = made-is k (first .0) in
+    (rest .0, rest .1 ∙ ap (λ (c : Cache). after c y) (first .1))
 
 made-all-is : {ws left : List ℕ} {xs : List Call} → MadeAll ws xs left → soundWordsb ws ≡ true → (soundWordsb left ≡ true) × (readCache left ≡ afterAll (readCache ws) xs)
 unfolding afterAll

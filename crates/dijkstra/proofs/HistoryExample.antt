@@ -23,6 +23,7 @@ use Rattle.model.specs.declared.BestSolution.the-variants.{NoBest, Best}
 use Rattle.model.specs.declared.StepAnswer.the-variants as stepping
 use Rattle.model.specs.declared.Stepped.{Stepped}
 use Rattle.model.specs.Answers.{answered, refused, waiting, solved}
+use Rattle.model.specs.Worth.{weight, solutionCostOf}
 use Rattle.model.specs.Graph.{absent}
 use Rattle.model.specs.Path.{path, words}
 use Rattle.model.specs.Calls.{initialize, step, retrace}
@@ -33,8 +34,8 @@ use Rattle.text.proofs.Examples.{exampleText}
 use Rattle.layout.specs.Read.{readCache}
 use Rattle.layout.specs.Sound.{soundWordsb}
 use Rattle.cache.specs.Open.{Opening, openCache}
-use Rattle.turn.specs.Turn.{InSlot, Apart}
-use Rattle.plant.specs.Plant.{plantedAll}
+use Rattle.entry_turns.specs.Turn.{InSlot, Apart}
+use Rattle.new_trees.specs.Plant.{plantedAll}
 use Rattle.dijkstra.specs.Calls.{Initializing, Stepping, Retracing}
 use Rattle.dijkstra.specs.Demands.{made-initialize, none-made, ends, own-step, own-retrace, between, History, Same, Right}
 use Rattle.dijkstra.proofs.Demands.{demand-2, demand-3}
@@ -67,43 +68,43 @@ grownSlot count first =
     ∷ 1 ∷ 2 ∷ 4 ∷ 0
     ∷ []
 
-unfoldable words0 : List ℕ
+unfoldable pub words0 : List ℕ
 unfolding cacheWords
 words0 = cacheWords 0 (replicate 27 0)
 
-unfoldable words1 : List ℕ
+unfoldable pub words1 : List ℕ
 unfolding cacheWords
 words1 = cacheWords 1 newSlot
 
-unfoldable words2 : List ℕ
+unfoldable pub words2 : List ℕ
 unfolding cacheWords
 words2 = cacheWords 1 (grownSlot 1 2)
 
-unfoldable words3 : List ℕ
+unfoldable pub words3 : List ℕ
 unfolding cacheWords
 words3 = cacheWords 1 (grownSlot 0 0)
 
 -- ---- the records: opened; the path to node 3 found; finished
 
-abbrev openedSearch : Search
+abbrev pub openedSearch : Search
 openedSearch = recordOf (memory 0 Never Unsolved ∷ []) (2 ∷ []) NoBest false
 
-abbrev foundSearch : Search
+abbrev pub foundSearch : Search
 foundSearch = recordOf (memory 0 (Len 3) (At 3) ∷ []) (2 ∷ []) (Best 0 3) false
 
-abbrev finishedSearch : Search
+abbrev pub finishedSearch : Search
 finishedSearch = recordOf (memory 0 (Len 3) (At 3) ∷ []) (2 ∷ []) (Best 0 3) true
 
 -- ---- the calls
 
-opens : Opening (replicate 55 7) (bytes exampleText) 0 1 Opened words0
-unfolding openCache bytes words0
+pub opens : Opening (replicate 55 7) (bytes exampleText) 0 1 Opened words0
+unfolding openCache words0
 opens = refl
 
-abbrev opened0 : SearchOpened
+abbrev pub opened0 : SearchOpened
 opened0 = record { answer = Initialized; search = openedSearch }
 
-initializes : Initializing words0 (0 ∷ []) (2 ∷ []) opened0 words1
+pub initializes : Initializing words0 (0 ∷ []) (2 ∷ []) opened0 words1
 unfolding soundWordsb words0 words1 initialize plantedAll readCache
 initializes = record { answer = refl; search = refl; words = refl; cache = refl; sound = refl }
 
@@ -129,11 +130,11 @@ module _ (s : Search) (a b : List ℕ) where
           ∙ getD-append-add (graphWords 1) (c ++ (7 ∷ 7 ∷ [])) (length c + (j - 53)) 0
           ∙ getD-append-add c (7 ∷ 7 ∷ []) (j - 53) 0
 
-abbrev waits : Search → ℕ → Stepped
+abbrev pub waits : Search → ℕ → Stepped
 waits s n = record { answer = stepping.Status Incomplete; tickets = n; search = s }
 
-step1 : Stepping words1 openedSearch (waits foundSearch 3) words2
-unfolding soundWordsb words1 words2 step readCache
+pub step1 : Stepping words1 openedSearch (waits foundSearch 3) words2
+unfolding soundWordsb words1 words2 step readCache weight solutionCostOf
 step1 = record {
   answer = refl;
   tickets = refl;
@@ -143,8 +144,8 @@ step1 = record {
   words = apart openedSearch newSlot (grownSlot 1 2) refl refl (λ j p q. record { which = 0; is-entry = omega arith; from = p; below = q });
 }
 
-step2 : Stepping words2 foundSearch (waits finishedSearch 1) words3
-unfolding soundWordsb words2 words3 step readCache
+pub step2 : Stepping words2 foundSearch (waits finishedSearch 1) words3
+unfolding soundWordsb words2 words3 step readCache weight solutionCostOf
 step2 = record {
   answer = refl;
   tickets = refl;
@@ -154,33 +155,33 @@ step2 = record {
   words = apart foundSearch (grownSlot 1 2) (grownSlot 0 0) refl refl (λ j p q. record { which = 0; is-entry = omega arith; from = p; below = q });
 }
 
-abbrev solved7 : Stepped
+abbrev pub solved7 : Stepped
 solved7 = record { answer = stepping.Status (Solved 7 2); tickets = 0; search = finishedSearch }
 
-step3 : Stepping words3 finishedSearch solved7 words3
-unfolding soundWordsb words3 step readCache path
+pub step3 : Stepping words3 finishedSearch solved7 words3
+unfolding soundWordsb words3 step readCache path weight solutionCostOf
 step3 = record { answer = refl; tickets = refl; search = refl; cache = refl; sound = refl; words = refl }
 
 -- another search, from 0 to 1, shares the tree: no word changes
-abbrev openedBetween : SearchOpened
+abbrev pub openedBetween : SearchOpened
 openedBetween = record { answer = Initialized; search = recordOf (memory 0 Never Unsolved ∷ []) (1 ∷ []) NoBest false }
 
-initializes-between : Initializing words2 (0 ∷ []) (1 ∷ []) openedBetween words2
-unfolding soundWordsb words2 initialize plantedAll readCache
+pub initializes-between : Initializing words2 (0 ∷ []) (1 ∷ []) openedBetween words2
+unfolding soundWordsb words2 initialize plantedAll readCache weight solutionCostOf
 initializes-between = record { answer = refl; search = refl; words = refl; cache = refl; sound = refl }
 
-abbrev slice : List ℕ
+abbrev pub slice : List ℕ
 slice = replicate 7 7
 
 not-yet : Retracing words2 foundSearch slice (retracing.Refused refusal.NotSolved 0) slice
-unfolding soundWordsb words2 retrace readCache
+unfolding soundWordsb words2 retrace readCache weight solutionCostOf
 not-yet = refl
 
-abbrev shown : List ℕ
+abbrev pub shown : List ℕ
 shown = 0 ∷ 0 ∷ 1 ∷ 1 ∷ 2 ∷ 7 ∷ 7 ∷ []
 
-shows : Retracing words3 finishedSearch slice (retracing.Moves 2) shown
-unfolding soundWordsb words3 retrace readCache path words
+pub shows : Retracing words3 finishedSearch slice (retracing.Moves 2) shown
+unfolding soundWordsb words3 retrace readCache path words weight solutionCostOf
 shows = refl
 
 -- ---- the whole list, and what the demands say of it

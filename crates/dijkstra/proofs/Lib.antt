@@ -1,12 +1,9 @@
 -- Laws that belong to no one function.
-pub mod Goals
-pub mod RetracedNode
-pub mod Opened
+pub mod Histories
 pub mod Initialized
 pub mod Stepped
 pub mod Retraced
 pub mod Demand1
-pub mod Histories
 pub mod Demands
 pub mod Determined
 pub mod Examples

@@ -11,9 +11,9 @@ use Rattle.model.specs.Answers.{Reply, Status}
 use Rattle.model.specs.Calls.{AfterStep}
 use Rattle.layout.specs.Read.{readCache}
 use Rattle.layout.specs.Sound.{soundWordsb}
-use Rattle.sound.proofs.Facts.{at-sound-words}
-use Rattle.checked.specs.Step.{Leaves, Advances, notStepped}
-use Rattle.checked.proofs.Advanced.{leaves-same}
+use Rattle.sound.proofs.Facts.{sound-words-at, at-sound-words}
+use Rattle.unchecked.specs.Step.{Leaves, Advances, notStepped}
+use Rattle.unchecked.proofs.Advanced.{leaves-same}
 use Rattle.dijkstra.specs.Calls.{stepSoundIf, stepWords, Stepping}
 use Rattle.dijkstra.proofs.Histories.{step-is}
 
@@ -40,4 +40,17 @@ module _ (ws : List ℕ) (s : Search) where
         cache = a .cache ∙ sym (ap (λ (x : AfterStep). x .cache) is);
         sound = at-sound-words left (a .sound) ∙ sym ok;
         words = subst (λ (x : Reply Status). Leaves x ws s left) (sym (ap (λ (x : AfterStep). x .reply) is)) (a .words);
+      }
+
+  -- and back
+  pub as-sound : soundWordsb ws ≡ true → (r : Stepped) (left : List ℕ) → Stepping ws s r left → Advances ws s r left
+  as-sound ok r left p =
+      let is = step-is ws ok s in
+      record {
+        answer = p .answer ∙ ap (λ (x : AfterStep). x .reply) is;
+        tickets = p .tickets ∙ ap (λ (x : AfterStep). x .tickets) is;
+        search = p .search ∙ ap (λ (x : AfterStep). x .search) is;
+        cache = p .cache ∙ ap (λ (x : AfterStep). x .cache) is;
+        sound = sound-words-at left (p .sound ∙ ok);
+        words = subst (λ (x : Reply Status). Leaves x ws s left) (ap (λ (x : AfterStep). x .reply) is) (p .words);
       }

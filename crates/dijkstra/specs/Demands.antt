@@ -19,10 +19,10 @@ use Rattle.model.specs.Answers.{answered, stepReply}
 use Rattle.model.specs.Graph.{Graph}
 use Rattle.model.specs.Search.{entry, emptySearch}
 use Rattle.model.specs.Calls.{opened}
-use Rattle.model.specs.Demands.{Call, initializing as initializingCall, stepping as steppingCall, retracing as retracingCall, Act, ownStep, ownRetrace, other, Event, stepped, retraced, Owed}
+use Rattle.model.specs.Demands.{Call, initializing as initializingCall, stepping as steppingCall, retracing as retracingCall, reading, both, Act, ownStep, ownRetrace, other, Event, stepped, retraced, Owed}
 use Rattle.model.specs.Reference.{afterAll, eventsFrom}
 use Rattle.text.specs.Read.{readGraph}
-use Rattle.layout.specs.Layout.{queueAt, slotAt}
+use Rattle.layout.specs.Layout.{queueAt, slotAt, edgesIn, verticesIn}
 use Rattle.layout.specs.Read.{directionOf, readCache}
 use Rattle.cache.specs.Open.{Opening}
 use Rattle.dijkstra.specs.Calls.{Initializing, Stepping, Retracing, afterRetrace}
@@ -40,11 +40,14 @@ Demand1 =
 
 -- ---- lists of calls on the same words: each gets the words as the last one left them
 
--- one call on the words ws, which leaves the words left: accepted or refused, with any lists, any record and any slice
+-- one call on the words ws, which leaves the words left: accepted or refused, with any lists, any record and any slice. One that only reads
+-- leaves every word; one that is made of two is known by theirs
 pub data Made : List ℕ → Call → List ℕ → Type 0 where
   made-initialize : {ws left : List ℕ} (ss gs : List ℕ) (r : SearchOpened) → Initializing ws ss gs r left → Made ws (initializingCall ss gs) left
   made-step : {ws left : List ℕ} (s : Search) (r : Stepped) → Stepping ws s r left → Made ws (steppingCall s) left
   made-retrace : {ws : List ℕ} (s : Search) (p : List ℕ) (r : RetraceAnswer) (q : List ℕ) → Retracing ws s p r q → Made ws (retracingCall s p) ws
+  made-reading : {ws : List ℕ} → Made ws reading ws
+  made-both : {ws mid left : List ℕ} {x y : Call} → Made ws x mid → Made mid y left → Made ws (both x y) left
 
 pub data MadeAll : List ℕ → List Call → List ℕ → Type 0 where
   none-made : {ws : List ℕ} → MadeAll ws [] ws
@@ -107,10 +110,10 @@ Demand3 =
 pub record QueueWord (ws : List ℕ) (s : Search) (left : List ℕ) (j : ℕ) : Type 0 where
   pub which : ℕ
   pub is-entry : which < s .«tree_count»
-  pub from : slotAt (getD ws 1 0) (getD ws 2 0) (entry s which .tree) + queueAt (getD ws 2 0) ≤ j
+  pub from : slotAt (verticesIn ws) (edgesIn ws) (entry s which .tree) + queueAt (edgesIn ws) ≤ j
   pub below :
-      let slot = slotAt (getD ws 1 0) (getD ws 2 0) (entry s which .tree) in
-      j < slot + queueAt (getD ws 2 0) + getD left (slot + 2) 0
+      let slot = slotAt (verticesIn ws) (edgesIn ws) (entry s which .tree) in
+      j < slot + queueAt (edgesIn ws) + getD left (slot + 2) 0
 
 -- every other word is the same, and so is the cache that the words hold: in the queue words the same nodes wait
 pub record SameBut (ws : List ℕ) (s : Search) (left left′ : List ℕ) : Type 0 where

@@ -50,7 +50,7 @@ fn next_at(numbers: &[u32], place: usize, end: usize) -> Placed
     }
 }
 
-pub fn edges_from<'a>(numbers: &'a [u32], place: usize, end: usize) -> SimpleGraphEdges<'a>
+fn edges_from<'a>(numbers: &'a [u32], place: usize, end: usize) -> SimpleGraphEdges<'a>
     ensures { λ r. ⌜ (r .numbers ≡ numbers .entry) × ((r .place ≡ place) × (r .end ≡ end)) ⌝ }
 {
     SimpleGraphEdges {

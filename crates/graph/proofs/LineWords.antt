@@ -15,7 +15,8 @@ use Rattle.text.specs.declared.counts.Counts.{Counts}
 use Rattle.text.specs.Bytes.{place}
 use Rattle.text.specs.Lines.{lineOf, linesOf}
 use Rattle.text.specs.Read.{initialWord, counted, noCounts}
-use Rattle.text.proofs.LineCuts.{rest, lines-past}
+use Rattle.text.proofs.LineCuts.{lines-past}
+use Rattle.text.proofs.Parts.{rest}
 use Rattle.text.proofs.Passed.{Within, Passes, judged-within}
 use Rattle.text.proofs.Passing.{Passing, passing-first, passing-lines, passing-line, passing-next}
 use Rattle.layout.specs.Layout.{slotsAt}
@@ -45,6 +46,10 @@ passes-writes : {k z : Counts} {m n : ℕ} (x : Line) → Passes k z x → Withi
 passes-writes Illegal p w e f = tt
 passes-writes (Vertex v i) p w e f = (omega (arith, p .vertex {n = v} {i = i} refl), initial-fits i (λ c q. p .initial refl q))
 passes-writes (Edge a b c) p w e f = omega (arith, p .edge {m = a} {n = b} {c = c} refl)
+
+-- what a line needs, by its kind
+pub writes-as : (n m : ℕ) (k : Counts) {x y : Line} → x ≡ y → WritesLine n m k x → WritesLine n m k y
+writes-as n m k e h = rw e at h
 
 -- ---- all lines
 

@@ -2,7 +2,7 @@
 -- Assumes nothing.
 use mathlib.Core.Path.{_≡_, refl, sym, ap, ap₂, _∙_}
 use mathlib.Core.List.{List, [], _∷_, _++_, map, append-assoc, map-id}
-use Prim.Native.Nat.{ℕ, suc, _+_, _*_, _<_, _≤_}
+use Prim.Native.Nat.{ℕ, suc, _+_, _<_, _≤_}
 use native.Mathlib.Omega.{arith}
 use lib.ListN.{length, set, take, drop, length-append, length-map}
 use lib.Seq.{set-comm, sets, sets-eq}
@@ -15,7 +15,7 @@ use Rattle.text.specs.Lines.{linesOf}
 use Rattle.text.specs.Read.{judgeFrom, judge, counted, noCounts, initialWord, initialsOf, edgesOf, graphOf}
 use Rattle.text.proofs.Passed.{passes-rest}
 use Rattle.text.proofs.Accepted.{counts-from}
-use Rattle.layout.specs.Layout.{headerWords, initialAt, edgesAt, placesAt}
+use Rattle.layout.specs.Layout.{headerWords, initialAt, placesAt, edgeAt}
 use Rattle.layout.specs.Words.{edgeWords}
 use Rattle.layout.proofs.Edges.{edge-words-length}
 use Rattle.graph.proofs.LineWords.{line-length}
@@ -58,7 +58,7 @@ lines-length dir m k (x ∷ xs) ws = lines-length dir m (counted k x) xs (lineWr
 -- where k counts the lines above xs and z all lines
 pub lines-written : (dir : Direction) (n : ℕ) (k z : Counts) (xs : List Line) (ws : List ℕ) → judgeFrom n k xs ≡ answered z
     → linesWritten dir (z .vertices) k xs ws
-    ≡ sets (sets ws (initialAt + k .vertices) (initialsOf xs)) (edgesAt (z .vertices) + 3 * k .edges) (edgeWords (map (held dir) (edgesOf xs)))
+    ≡ sets (sets ws (initialAt + k .vertices) (initialsOf xs)) (edgeAt (z .vertices) (k .edges)) (edgeWords (map (held dir) (edgesOf xs)))
 unfolding linesWritten initialsOf edgesOf
 lines-written dir n k z [] ws e = refl
 lines-written dir n k z (line.Illegal ∷ xs) ws e = lines-written dir (n + 1) k z xs ws (passes-rest n k line.Illegal xs e)
@@ -67,12 +67,12 @@ lines-written dir n k z (line.Vertex v c ∷ xs) ws e =
     let words : List ℕ = edgeWords (map (held dir) (edgesOf xs)) in
     let more : List ℕ = set ws (initialAt + k .vertices) (initialWord c) in
     lines-written dir (n + 1) (counted k x) z xs more (passes-rest n k x xs e)
-    ∙ ap (λ (i : ℕ). sets (sets more i (initialsOf xs)) (edgesAt (z .vertices) + 3 * k .edges) words) (omega arith)
+    ∙ ap (λ (i : ℕ). sets (sets more i (initialsOf xs)) (edgeAt (z .vertices) (k .edges)) words) (omega arith)
 lines-written dir n k z (line.Edge a b c ∷ xs) ws e =
     let x : Line = line.Edge a b c in
     let words : List ℕ = edgeWords (map (held dir) (edgesOf xs)) in
     let own : List ℕ = edgeWords (held dir (record { from = a; to = b; cost = c }) ∷ []) in
-    let place : ℕ = edgesAt (z .vertices) + 3 * k .edges in
+    let place : ℕ = edgeAt (z .vertices) (k .edges) in
     let rest = passes-rest n k x xs e in
     let room : initialAt + k .vertices + length (initialsOf xs) ≤ place = omega (arith, counts-from (n + 1) (counted k x) xs rest) in
     lines-written dir (n + 1) (counted k x) z xs (sets ws place own) rest

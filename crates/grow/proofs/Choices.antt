@@ -13,6 +13,7 @@ use Rattle.model.specs.Graph.{Domain, Accepted, vertexCount, edgeCount, choices
 use Rattle.model.specs.Tree.{Tree, Node, evaluationOf, closedAt, closedWithin, pushIf, pushNode, child, pushAll}
 use Rattle.model.proofs.Choices.{edge-numbers-mem}
 use Rattle.layout.specs.Words.{firstPlace}
+use Rattle.queue.specs.Queue.{figures}
 use Rattle.graph.proofs.Lengths.{numbers-length}
 use Rattle.graph.proofs.Ordered.{getD-mem}
 
@@ -81,14 +82,20 @@ module _ (d : Domain) (v : ℕ) where
 
 -- ---- one edge more
 
-push-snoc : (d : Domain) (n k : ℕ) (t : Tree) (xs : List ℕ) (x : ℕ) → pushAll d n k t (xs ++ (x ∷ [])) ≡ pushNode (pushAll d n k t xs) (child d n k x)
+push-snoc : (d : Domain) (n : ℕ) (p : Node) (t : Tree) (xs : List ℕ) (x : ℕ) → pushAll d n p t (xs ++ (x ∷ [])) ≡ pushNode (pushAll d n p t xs) (child d n p x)
 unfolding pushAll
-push-snoc d n k t [] x = refl
-push-snoc d n k t (y ∷ ys) x = push-snoc d n k (pushNode t (child d n k y)) ys x
+push-snoc d n p t [] x = refl
+push-snoc d n p t (y ∷ ys) x = push-snoc d n p (pushNode t (child d n p y)) ys x
 
-pub push-next : (d : Domain) (n k : ℕ) (t : Tree) (cs : List ℕ) (j : ℕ) → j < length cs
-    → pushAll d n k t (take (j + 1) cs) ≡ pushNode (pushAll d n k t (take j cs)) (child d n k (getD cs j 0))
-push-next d n k t cs j h = rw add-one (ap (pushAll d n k t) (take-suc cs j 0 h) ∙ push-snoc d n k t (take j cs) (getD cs j 0))
+pub push-next : (d : Domain) (n : ℕ) (p : Node) (t : Tree) (cs : List ℕ) (j : ℕ) → j < length cs
+    → pushAll d n p t (take (j + 1) cs) ≡ pushNode (pushAll d n p t (take j cs)) (child d n p (getD cs j 0))
+push-next d n p t cs j h = rw add-one (ap (pushAll d n p t) (take-suc cs j 0 h) ∙ push-snoc d n p t (take j cs) (getD cs j 0))
+
+-- of the parent only its figures are looked at
+pub push-figures : (d : Domain) (n : ℕ) (p : Node) (t : Tree) (cs : List ℕ) → pushAll d n (figures (p .cost)) t cs ≡ pushAll d n p t cs
+unfolding pushAll
+push-figures d n p t [] = refl
+push-figures d n p t (c ∷ cs) = push-figures d n p (pushNode t (child d n p c)) cs
 
 push-if : (b : Bool) (t : Tree) (x : Node) → length (pushIf b t x .nodes) ≤ length (t .nodes) + 1
 push-if true t x = omega arith

@@ -4,19 +4,19 @@
 use mathlib.Core.Path.{_≡_, refl, sym, ap, _∙_}
 use mathlib.Core.Logic.{inl}
 use mathlib.Core.List.{List, [], _∷_}
-use Prim.Native.Nat.{ℕ, _+_, _<_}
+use Prim.Native.Nat.{ℕ, _<_}
 use native.Mathlib.Omega.{arith}
-use lib.ListN.{length, getD}
+use lib.ListN.{length}
 use Rattle.model.specs.declared.CostBound.the-variants.{Unbounded, Bound}
+use Rattle.model.specs.Worth.{evaluationOf}
 use Rattle.model.specs.Tree.{Tree, Growth, Going, found, over, grow}
 use Rattle.model.specs.Sound.{tree}
 use Rattle.model.specs.Calls.{Cache}
-use Rattle.layout.specs.Layout.{slotAt, treeWords}
+use Rattle.layout.specs.Layout.{usedIn, treeCountAt, edgesIn, treesIn, verticesIn}
 use Rattle.layout.specs.Read.{readCache}
-use Rattle.layout.specs.Sound.{slotWords}
 use Rattle.layout.proofs.Trees.{tree-nodes}
 use Rattle.layout.proofs.Examples.{sample}
-use Rattle.layout.proofs.Places.{part-at}
+use Rattle.layout.specs.Slots.{slotWords}
 use Rattle.sound.proofs.Facts.{tree-read}
 use Rattle.grow.specs.declared.Grown.{Grown}
 use Rattle.grow.specs.Grow.{growthOf, Grew}
@@ -27,40 +27,35 @@ told g = (g .tickets, (length (g .tree .nodes), g .going))
 
 -- the last ticket is for a closed vertex
 to-the-end : told (growthOf sample 0 [] Unbounded) ≡ (3, (4, over))
-unfolding sample readCache grow
+unfolding sample readCache grow evaluationOf
 to-the-end = refl
 
 -- "a wanted motif is a find and stops"
 goal-found : told (growthOf sample 0 (2 ∷ []) Unbounded) ≡ (2, (4, found 3))
-unfolding sample readCache grow
+unfolding sample readCache grow evaluationOf
 goal-found = refl
 
 -- "then a cost above the bound stops": its edges are queued before
 above-bound : told (growthOf sample 0 [] (Bound 3)) ≡ (1, (4, over))
-unfolding sample readCache grow
+unfolding sample readCache grow evaluationOf
 above-bound = refl
 
 -- a cost at the bound does not stop
 at-bound : told (growthOf sample 0 [] (Bound 4)) ≡ (2, (4, over))
-unfolding sample readCache grow
+unfolding sample readCache grow evaluationOf
 at-bound = refl
 
 -- ---- what the promise shuts out
 
 -- a program that tests the bound before it queues the edges: it would leave three nodes
-edges-before-bound : (r : Grown) (left : List ℕ) → Grew sample 0 [] (Bound 3) r left → (r .tickets ≡ 1) × (getD left 27 0 ≡ 4)
-unfolding sample readCache grow
+edges-before-bound : (r : Grown) (left : List ℕ) → Grew sample 0 [] (Bound 3) r left
+    → (r .tickets ≡ 1) × (usedIn (slotWords (verticesIn left) (edgesIn left) 0 left) ≡ 4)
+unfolding sample readCache grow evaluationOf
 edges-before-bound r left g =
-    let m : ℕ = getD left 1 0 in
-    let l : ℕ = getD left 2 0 in
-    let four : m ≡ 4 = g .outside .word 1 (inl (omega arith)) in
-    let three : l ≡ 3 = g .outside .word 2 (inl (omega arith)) in
-    let two : getD left 4 0 ≡ 2 = g .outside .word 4 (inl (omega arith)) in
-    let used : 0 < getD left 4 0 = omega arith in
-    let place : 27 ≡ slotAt m l 0 + 1 = omega arith in (
+    let two : treesIn left ≡ 2 = g .outside .word treeCountAt (inl (omega arith)) in
+    let used : 0 < treesIn left = omega arith in (
       g .tickets,
-      ap (λ (i : ℕ). getD left i 0) place
-          ∙ sym (tree-nodes m l (slotWords m l 0 left) ∙ part-at (slotAt m l 0) (treeWords m l) left 1 (omega arith))
+      sym (tree-nodes (verticesIn left) (edgesIn left) (slotWords (verticesIn left) (edgesIn left) 0 left))
           ∙ sym (ap (λ (t : Tree). length (t .nodes)) (tree-read left used))
           ∙ ap (λ (c : Cache). length (tree (c .trees) 0 .nodes)) (g .cache),
     )

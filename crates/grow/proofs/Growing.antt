@@ -6,7 +6,7 @@ use mathlib.Core.List.{List}
 use Prim.Native.Nat.{ℕ, suc, _+_, _-_, _<_, _≤_}
 use native.Mathlib.Omega.{arith}
 use borrow.Rule.Slice.PartMut.{putMid, midOf, put-same}
-use lib.ListN.{length, getD, set, length-set}
+use lib.ListN.{length, set, length-set}
 use Rattle.model.specs.declared.CostBound.{CostBound}
 use Rattle.model.specs.declared.Solution.the-variants.{Unsolved, At}
 use Rattle.model.specs.Graph.{Domain}
@@ -14,21 +14,24 @@ use Rattle.model.specs.Tree.{Tree, Going, on, least, popped, ticket, grow}
 use Rattle.model.specs.Sound.{Sound}
 use Rattle.model.specs.Search.{findOf}
 use Rattle.model.proofs.Later as later
-use Rattle.layout.specs.Layout.{closedWordsAt}
+use Rattle.layout.specs.Layout.{queuedAt, closedWordsAt, edgesIn, verticesIn}
 use Rattle.layout.specs.Read.{readCache}
 use Rattle.layout.proofs.Trees.{tree-nodes}
+use Rattle.layout.specs.declared.slots.Slot.{Slot}
+use Rattle.layout.specs.Slots.{slotOf, treeAt, domainAt}
 use Rattle.queue.specs.declared.Popped.{Popped}
 use Rattle.queue.specs.declared.Popped.the-variants.{Ticket, Empty}
 use Rattle.tree.specs.Tree.{treeOf, Formed, Pops, PopIs}
 use Rattle.sound.proofs.Slots.{tree-in-at}
+use Rattle.sound.specs.Facts.{InUse, Ready}
+use Rattle.sound.proofs.InUse.{mid-slot, tree-lent, slot-ready}
 use Rattle.grow.specs.declared.Next.{Next}
 use Rattle.grow.specs.declared.Next.the-variants as next
-use Rattle.grow.specs.declared.Slot.{Slot}
-use Rattle.grow.specs.Grow.{InUse, growthOf, Grew, slotOf, treeAt, domainAt, Ready, SlotHolds, CanVisit, goingOf, Visits}
-use Rattle.grow.proofs.Slots.{mid-slot, tree-lent, part-size, lent-again, put-again, put-holds, holds-trans, holds-refl, ready-after, domain-after}
+use Rattle.grow.specs.Grow.{growthOf, Grew, SlotHolds, CanVisit, goingOf, Visits}
+use Rattle.grow.proofs.Slots.{part-size, lent-again, put-again, put-holds, holds-trans, holds-refl, ready-after, domain-after}
 use Rattle.grow.proofs.Tickets.{stepped, ticket-is, ticket-none, ticket-sound, grow-over, grow-found}
 use Rattle.grow.proofs.Room.{can-visit}
-use Rattle.grow.proofs.Kept.{slot-ready, kept}
+use Rattle.grow.proofs.Kept.{kept}
 
 -- ---- the end: the slot holds the tree of the model's growth
 
@@ -37,7 +40,7 @@ module _ {ws : List ℕ} {i : ℕ} (gs : List ℕ) (b : CostBound) (can : InUse 
   unfolding readCache
   growth-is =
       ap (λ (t : Tree). grow (domainAt (slotOf ws i) ws) gs b 10 (record { tree = t; tickets = 0; going = on }))
-      (tree-in-at (getD ws 1 0) (getD ws 2 0) ws (can .slot))
+      (tree-in-at (verticesIn ws) (edgesIn ws) ws (can .slot))
 
   grew : {left : List ℕ} {k : ℕ} {g : Going} {u : Tree} → growthOf ws i gs b ≡ record { tree = u; tickets = k; going = g } → SlotHolds (slotOf ws i) ws left u
       → Grew ws i gs b (record { tickets = k; solution = findOf g }) left
@@ -124,14 +127,14 @@ module _ {ws : List ℕ} {i : ℕ} {gs : List ℕ} {b : CostBound} {s : Slot} {w
         (finished (next-is ∙ ap (grow d gs b (left - 1)) (ticket-none d gs b t tickets none-left) ∙ grow-over d gs b (left - 1) t tickets) (g .holds))
 
     -- the queue's length can be stored
-    pub can-store : 2 < length (midOf (s .at) (s .end - s .at) mid)
+    pub can-store : queuedAt < length (midOf (s .at) (s .end - s .at) mid)
     can-store = rw (lent-again (g .ready) ys same) (omega (arith, part-size (g .ready) ys same))
 
     module _ {k m : ℕ} {r : Popped} (p : PopIs (s .edges) lent ys r) (e : r ≡ Ticket k m)
-        {zs : List ℕ} (put : zs ≡ set (midOf (s .at) (s .end - s .at) mid) 2 m) where
+        {zs : List ℕ} (put : zs ≡ set (midOf (s .at) (s .end - s .at) mid) queuedAt m) where
       -- the tree's words, and all words, with the length stored
       abbrev us : List ℕ
-      us = set ys 2 m
+      us = set ys queuedAt m
 
       abbrev stored : List ℕ
       stored = putMid (s .at) (s .end - s .at) mid zs
@@ -147,11 +150,11 @@ module _ {ws : List ℕ} {i : ℕ} {gs : List ℕ} {b : CostBound} {s : Slot} {w
 
       stored-is : stored ≡ putMid (s .at) (s .end - s .at) words us
       stored-is =
-          ap (putMid (s .at) (s .end - s .at) mid) (put ∙ ap (λ (x : List ℕ). set x 2 m) (lent-again (g .ready) ys same))
+          ap (putMid (s .at) (s .end - s .at) mid) (put ∙ ap (λ (x : List ℕ). set x queuedAt m) (lent-again (g .ready) ys same))
           ∙ put-again (g .ready) ys same us
 
       taken : SlotHolds s words stored (popped t k)
-      taken = subst (λ (x : List ℕ). SlotHolds s words x (popped t k)) (sym stored-is) (put-holds (g .ready) us (length-set ys 2 m ∙ same) (pops .formed) left-tree)
+      taken = subst (λ (x : List ℕ). SlotHolds s words x (popped t k)) (sym stored-is) (put-holds (g .ready) us (length-set ys queuedAt m ∙ same) (pops .formed) left-tree)
 
       still : domainAt s stored ≡ d
       still = domain-after (g .ready) taken ∙ domain-after first (g .holds)

@@ -11,33 +11,23 @@ use lib.Seq.{ext-getD, getD-set-same, getD-set-other}
 use Rattle.model.specs.Tree.{Tree}
 use Rattle.model.specs.Sound.{Sound, noTree}
 use Rattle.model.specs.Calls.{withTrees}
-use Rattle.layout.specs.Layout.{treeWords, slotsAt, slotAt}
-use Rattle.layout.specs.Read.{treeIn, treesIn, domainOf, readCache}
-use Rattle.layout.specs.Sound.{slotWords}
+use Rattle.layout.specs.Layout.{directionAt, vertexCountAt, edgeCountAt, slotCountAt, treeCountAt, treeWords, slotsAt, slotAt, edgesIn, slotsIn, startIn, treesIn, verticesIn}
+use Rattle.layout.specs.Read.{treeIn, readTrees, domainOf, readCache}
+use Rattle.layout.specs.Slots.{slotWords, slotOf, treeAt}
 use Rattle.tree.specs.Tree.{Formed}
 use Rattle.tree.proofs.Same.{part-same}
-use Rattle.sound.specs.Facts.{SoundIn, SoundWords}
+use Rattle.sound.specs.Facts.{SoundIn, SoundWords, Ready}
 use Rattle.sound.proofs.Slots.{slot-before, tree-in-at, trees-in-length}
-use Rattle.grow.specs.Grow.{slotOf, treeAt, Ready, SlotHolds}
+use Rattle.sound.proofs.InUse.{slot-ready}
+use Rattle.grow.specs.Grow.{SlotHolds}
 use Rattle.grow.proofs.Slots.{ready-after, domain-after}
 
-pub slot-ready : (ws : List ℕ) (i : ℕ) → SoundWords ws → i < getD ws 4 0 → Ready (slotOf ws i) ws
-slot-ready ws i ok used =
-    record {
-      slot = record { few = omega (arith, ok .slots, ok .used); at = refl; end = refl };
-      held = ok .held;
-      fits =
-          let below : i < getD ws 3 0 = omega (arith, ok .used) in
-          omega (arith, ok .fits, slot-before (getD ws 1 0) (getD ws 2 0) below);
-      formed = ok .formed i used;
-    }
-
-module _ (ws left : List ℕ) (i : ℕ) (u : Tree) (ok : SoundWords ws) (used : i < getD ws 4 0) (h : SlotHolds (slotOf ws i) ws left u) where
+module _ (ws left : List ℕ) (i : ℕ) (u : Tree) (ok : SoundWords ws) (used : i < treesIn ws) (h : SlotHolds (slotOf ws i) ws left u) where
   abbrev m : ℕ
-  m = getD ws 1 0
+  m = verticesIn ws
 
   abbrev l : ℕ
-  l = getD ws 2 0
+  l = edgesIn ws
 
   ready : Ready (slotOf ws i) ws
   ready = slot-ready ws i ok used
@@ -52,22 +42,22 @@ module _ (ws left : List ℕ) (i : ℕ) (u : Tree) (ok : SoundWords ws) (used : 
   ]))
 
   -- what is known of the words of each slot: of slot i as it is, of the others as it was
-  at-slot : (P : ℕ → List ℕ → Type 0) → P i (slotWords m l i left) → ((j : ℕ) → j < getD ws 4 0 → P j (slotWords m l j ws)) → (j : ℕ) → j < getD ws 4 0 → P j (slotWords m l j left)
+  at-slot : (P : ℕ → List ℕ → Type 0) → P i (slotWords m l i left) → ((j : ℕ) → j < treesIn ws → P j (slotWords m l j ws)) → (j : ℕ) → j < treesIn ws → P j (slotWords m l j left)
   at-slot P p q j b = elim (ℕ-discrete j i) [ yes e ↦ rw e p | no ne ↦ rw (other j ne) (q j b) ]
 
   module _ (good : Sound (domainOf m l ws) u) (start : u .start ≡ treeAt (slotOf ws i) ws .start) where
     domain : domainOf m l left ≡ domainOf m l ws
     domain = domain-after ready h
 
-    starts : (j : ℕ) → j < getD ws 4 0 → getD (slotWords m l j left) 0 0 ≡ getD (slotWords m l j ws) 0 0
+    starts : (j : ℕ) → j < treesIn ws → startIn (slotWords m l j left) ≡ startIn (slotWords m l j ws)
     unfolding treeIn
-    starts j b = at-slot (λ (x : ℕ) (t : List ℕ). getD t 0 0 ≡ getD (slotWords m l x ws) 0 0) (ap (λ (t : Tree). t .start) (h .tree) ∙ start) (λ x c. refl) j b
+    starts j b = at-slot (λ (x : ℕ) (t : List ℕ). startIn t ≡ startIn (slotWords m l x ws)) (ap (λ (t : Tree). t .start) (h .tree) ∙ start) (λ x c. refl) j b
 
-    kept-sound : SoundIn m l (getD ws 3 0) (getD ws 4 0) left
+    kept-sound : SoundIn m l (slotsIn ws) (treesIn ws) left
     kept-sound =
         record {
           header = omega (arith, ok .header, h .outside .len);
-          direction = rw (below 0 (omega arith)) (ok .direction);
+          direction = rw (below directionAt (omega arith)) (ok .direction);
           some-slot = ok .some-slot;
           slots = ok .slots;
           used = ok .used;
@@ -80,13 +70,13 @@ module _ (ws left : List ℕ) (i : ℕ) (u : Tree) (ok : SoundWords ws) (used : 
         }
 
     kept-words : SoundWords left
-    kept-words = rw (below 1 (omega arith), below 2 (omega arith), below 3 (omega arith), below 4 (omega arith)) kept-sound
+    kept-words = rw (below vertexCountAt (omega arith), below edgeCountAt (omega arith), below slotCountAt (omega arith), below treeCountAt (omega arith)) kept-sound
 
-    kept-trees : treesIn m l (getD ws 4 0) left ≡ set (treesIn m l (getD ws 4 0) ws) i u
+    kept-trees : readTrees m l (treesIn ws) left ≡ set (readTrees m l (treesIn ws) ws) i u
     kept-trees =
-        let n : ℕ = getD ws 4 0 in
-        let old : List Tree = treesIn m l n ws in
-        ext-getD noTree (treesIn m l n left) (set old i u) (trees-in-length m l n left ∙ sym (length-set old i u ∙ trees-in-length m l n ws)) (λ j b.
+        let n : ℕ = treesIn ws in
+        let old : List Tree = readTrees m l n ws in
+        ext-getD noTree (readTrees m l n left) (set old i u) (trees-in-length m l n left ∙ sym (length-set old i u ∙ trees-in-length m l n ws)) (λ j b.
         let c : j < n = omega (arith, trees-in-length m l n left) in
         tree-in-at m l left c
         ∙ elim (ℕ-discrete j i) [
@@ -97,8 +87,8 @@ module _ (ws left : List ℕ) (i : ℕ) (u : Tree) (ok : SoundWords ws) (used : 
     kept-cache : readCache left ≡ withTrees (readCache ws) (set (readCache ws .trees) i u)
     unfolding readCache
     kept-cache =
-        rw (below 1 (omega arith), below 2 (omega arith), below 3 (omega arith), below 4 (omega arith))
-        (λ x. record { domain = domain x; slots = getD ws 3 0; trees = kept-trees x })
+        rw (below vertexCountAt (omega arith), below edgeCountAt (omega arith), below slotCountAt (omega arith), below treeCountAt (omega arith))
+        (λ x. record { domain = domain x; slots = slotsIn ws; trees = kept-trees x })
 
     pub kept : SoundWords left × (readCache left ≡ withTrees (readCache ws) (set (readCache ws .trees) i u))
     kept = (kept-words, kept-cache)

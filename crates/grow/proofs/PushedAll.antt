@@ -9,17 +9,20 @@ use lib.Seq.{take-all, getD-take}
 use borrow.Rule.Slice.PartMut.{midOf, mid-len}
 use Rattle.model.specs.Graph.{Domain, choices, edgeNumbers, vertexCount}
 use Rattle.model.specs.Tree.{Tree, Node, pushNode, child, pushAll}
-use Rattle.layout.specs.Layout.{Sized, placesAt, numbersAt, slotsAt}
+use Rattle.layout.specs.Layout.{placeIn, Sized, placesAt, numbersAt, slotsAt, usedIn}
 use Rattle.layout.specs.Words.{firstPlace}
 use Rattle.layout.proofs.Edges.{edge-count-in, vertex-count-in}
 use Rattle.layout.proofs.Places.{word-behind}
 use Rattle.layout.proofs.Trees.{tree-nodes}
+use Rattle.layout.specs.declared.slots.Slot.{Slot}
+use Rattle.layout.specs.Slots.{wordsIn, treeAt, domainAt}
+use Rattle.queue.specs.Queue.{figures}
 use Rattle.edges.specs.Edges.{nextAt}
 use Rattle.edges.specs.declared.Placed.{Placed}
 use Rattle.edges.specs.declared.NextEdge.the-variants.{Edge, End}
 use Rattle.edges.proofs.Found.{Found, edge-found, end-found}
-use Rattle.grow.specs.declared.Slot.{Slot}
-use Rattle.grow.specs.Grow.{wordsIn, treeAt, domainAt, Ready, SlotHolds, CanPushChoice, CanPushChoices}
+use Rattle.sound.specs.Facts.{Ready}
+use Rattle.grow.specs.Grow.{SlotHolds, CanPushChoice, CanPushChoices}
 use Rattle.grow.proofs.Slots.{holds-refl, holds-trans, ready-after, domain-after}
 use Rattle.grow.proofs.Choices.{edge-below, next-place, choice-at, places-fit, push-next, push-few}
 
@@ -31,26 +34,23 @@ pub record Pushing (s : Slot) (ws : List ℕ) (n v k first last : ℕ) (left : L
   pub ends : last ≡ first + length (choices (domainAt s ws) v)
   pub above : first ≤ place
   pub within : place ≤ last
-  pub used : getD (wordsIn s left) 1 0 ≤ getD (wordsIn s ws) 1 0 + (place - first)
-  pub holds : SlotHolds s ws left (pushAll (domainAt s ws) n k (treeAt s ws) (take (place - first) (choices (domainAt s ws) v)))
+  pub used : usedIn (wordsIn s left) ≤ usedIn (wordsIn s ws) + (place - first)
+  pub holds : SlotHolds s ws left (pushAll (domainAt s ws) n (figures k) (treeAt s ws) (take (place - first) (choices (domainAt s ws) v)))
 
 module _ {s : Slot} {ws : List ℕ} {v k : ℕ} (h : CanPushChoices s ws v k) where
   -- the first places of v and of the vertex after it
   pub can-find : (i : ℕ) → i ≤ v + 1 → Sized (s .vertices) (s .edges) × (placesAt (s .vertices) (s .edges) + i < length ws)
   can-find i b = (h .ready .held .sized, omega (arith, h .vertex, h .ready .held .fits))
 
-  module _ {w x first last : ℕ} (n : ℕ) (e : w ≡ v) (a : first ≡ getD ws (placesAt (s .vertices) (s .edges) + w) 0)
-      (f : x ≡ v) (b : last ≡ getD ws (placesAt (s .vertices) (s .edges) + (x + 1)) 0) where
-    abbrev wordAt : ℕ → ℕ
-    wordAt i = getD ws (placesAt (s .vertices) (s .edges) + i) 0
-
+  module _ {w x first last : ℕ} (n : ℕ) (e : w ≡ v) (a : first ≡ placeIn (s .vertices) (s .edges) ws w)
+      (f : x ≡ v) (b : last ≡ placeIn (s .vertices) (s .edges) ws (x + 1)) where
     starts-at : first ≡ firstPlace (domainAt s ws) v
-    starts-at = a ∙ ap wordAt e ∙ h .ready .held .place v (omega (arith, h .vertex))
+    starts-at = a ∙ ap (placeIn (s .vertices) (s .edges) ws) e ∙ h .ready .held .place v (omega (arith, h .vertex))
 
     ends-at : last ≡ first + length (choices (domainAt s ws) v)
     ends-at =
         b
-        ∙ ap (λ (i : ℕ). wordAt (i + 1)) f
+        ∙ ap (λ (i : ℕ). placeIn (s .vertices) (s .edges) ws (i + 1)) f
         ∙ h .ready .held .place (v + 1) (omega (arith, h .vertex))
         ∙ next-place (domainAt s ws) v
         ∙ ap (λ (i : ℕ). i + length (choices (domainAt s ws) v)) (sym starts-at)
@@ -92,10 +92,10 @@ module _ {s : Slot} {ws left : List ℕ} {n v k first last place : ℕ} (i : Pus
   last-fits = omega (arith, i .starts, i .ends, places-fit d v vertex-in (i .can .ready .held .accepted), edge-count-in (s .vertices) (s .edges) ws)
 
   module _ {r : Placed} (said : r ≡ nextAt ns place last) where
-    pub pushing-end : r .edge ≡ End → SlotHolds s ws left (pushAll d n k (treeAt s ws) (choices d v))
+    pub pushing-end : r .edge ≡ End → SlotHolds s ws left (pushAll d n (figures k) (treeAt s ws) (choices d v))
     pushing-end is =
         let stop : last ≤ place = end-found ns place last said (omega (arith, numbers-count, last-fits)) is in
-        subst (λ (cs : List ℕ). SlotHolds s ws left (pushAll d n k (treeAt s ws) cs))
+        subst (λ (cs : List ℕ). SlotHolds s ws left (pushAll d n (figures k) (treeAt s ws) cs))
         (take-all (place - first) (choices d v) (omega (arith, i .ends, i .within)))
         (i .holds)
 
@@ -143,16 +143,16 @@ module _ {s : Slot} {ws left : List ℕ} {n v k first last place : ℕ} (i : Pus
           ∙ choice-at d v vertex-in j in-choices
 
       abbrev new : Node
-      new = child (domainAt s left) n k e
+      new = child (domainAt s left) n (figures k) e
 
       module _ {next : List ℕ} (g : SlotHolds s left next (pushNode (treeAt s left) new)) where
-        tree-is : pushNode (treeAt s left) new ≡ pushAll d n k (treeAt s ws) (take (after - first) (choices d v))
+        tree-is : pushNode (treeAt s left) new ≡ pushAll d n (figures k) (treeAt s ws) (take (after - first) (choices d v))
         tree-is =
             let past : j + 1 ≡ after - first = omega (arith, i .above, found .after) in
-            ap₂ (λ (t : Tree) (x : Domain). pushNode t (child x n k e)) (i .holds .tree) (domain-after (i .can .ready) (i .holds))
-            ∙ ap (λ (l : ℕ). pushNode (pushAll d n k (treeAt s ws) (take j (choices d v))) (child d n k l)) edge-is
-            ∙ sym (push-next d n k (treeAt s ws) (choices d v) j in-choices)
-            ∙ ap (λ (m : ℕ). pushAll d n k (treeAt s ws) (take m (choices d v))) past
+            ap₂ (λ (t : Tree) (x : Domain). pushNode t (child x n (figures k) e)) (i .holds .tree) (domain-after (i .can .ready) (i .holds))
+            ∙ ap (λ (l : ℕ). pushNode (pushAll d n (figures k) (treeAt s ws) (take j (choices d v))) (child d n (figures k) l)) edge-is
+            ∙ sym (push-next d n (figures k) (treeAt s ws) (choices d v) j in-choices)
+            ∙ ap (λ (m : ℕ). pushAll d n (figures k) (treeAt s ws) (take m (choices d v))) past
 
         pub pushing-one : Pushing s ws n v k first last next after
         pushing-one = record {

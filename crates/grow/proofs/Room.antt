@@ -6,7 +6,7 @@ use mathlib.Core.List.{List}
 use Prim.Native.Nat.{ℕ, _+_, _<_, _≤_}
 use native.Mathlib.Omega.{arith}
 use borrow.Author.Tests.{eqb-true, not-false}
-use lib.ListN.{length, getD, set}
+use lib.ListN.{length, set}
 use Rattle.model.specs.Graph.{Domain, Accepted, choices, vertexCount, edgeCount}
 use Rattle.model.specs.Tree.{Tree, node, closedAt, popped}
 use Rattle.model.specs.Sound.{Sound}
@@ -15,8 +15,11 @@ use Rattle.model.proofs.Least.{node-inside}
 use Rattle.model.proofs.Room.{nodes-le, cost-bound}
 use Rattle.layout.proofs.Edges.{vertex-count-in, edge-count-in}
 use Rattle.layout.proofs.Trees.{tree-nodes}
-use Rattle.grow.specs.declared.Slot.{Slot}
-use Rattle.grow.specs.Grow.{isClosed, wordsIn, treeAt, domainAt, Ready, CanVisit}
+use Rattle.grow.specs.Grow.{isClosed, CanVisit}
+use Rattle.layout.specs.Layout.{usedIn}
+use Rattle.layout.specs.declared.slots.Slot.{Slot}
+use Rattle.layout.specs.Slots.{wordsIn, treeAt, domainAt}
+use Rattle.sound.specs.Facts.{Ready}
 
 module _ (d : Domain) (acc : Accepted (d .graph)) (t : Tree) (ok : Sound d t) where
   pub node-cost : (n : ℕ) → n < length (t .nodes) → node (t .nodes) n .cost ≤ 2100000000
@@ -40,7 +43,7 @@ module _ {s : Slot} {ws : List ℕ} (t : Tree) (n : ℕ) (r : Ready s ws) (e : t
   abbrev v : ℕ
   v = node (t .nodes) n .vertex
 
-  used : length (t .nodes) ≡ getD (wordsIn s ws) 1 0
+  used : length (t .nodes) ≡ usedIn (wordsIn s ws)
   unfolding popped
   used = ap (λ (x : Tree). length (x .nodes)) (sym e) ∙ tree-nodes (s .vertices) (s .edges) (wordsIn s ws)
 
@@ -50,7 +53,7 @@ module _ {s : Slot} {ws : List ℕ} (t : Tree) (n : ℕ) (r : Ready s ws) (e : t
   inside : v < vertexCount (d .graph)
   inside = node-inside d (r .held .accepted) t ok n h
 
-  room : isClosed (popped t n) n ≡ false → getD (wordsIn s ws) 1 0 + length (choices d v) ≤ 1 + s .edges
+  room : isClosed (popped t n) n ≡ false → usedIn (wordsIn s ws) + length (choices d v) ≤ 1 + s .edges
   unfolding popped
   room z =
       omega (

@@ -9,28 +9,17 @@ use lib.ListN.{length, getD, drop}
 use lib.Seq.{getD-take, getD-drop}
 use borrow.Rule.Slice.PartMut.{putMid, midOf, take-put, drop-put}
 use Rattle.model.specs.Tree.{Tree}
-use Rattle.layout.specs.Layout.{slotsAt, slotAt, treeWords}
+use Rattle.layout.specs.Layout.{headerWords, vertexCountAt, edgeCountAt, treeCountAt, slotsAt, treeWords}
 use Rattle.layout.specs.Read.{treeIn}
-use Rattle.layout.proofs.Places.{part-length}
-use Rattle.graph.proofs.Parts.{mid-at, put-mid, mid-put, put-length}
+use Rattle.layout.specs.declared.slots.Slot.{Slot}
+use Rattle.layout.specs.Slots.{wordsIn, treeAt, domainAt}
+use Rattle.graph.proofs.Parts.{put-mid, mid-put, put-length}
 use Rattle.tree.specs.Tree.{Formed, treeOf}
 use Rattle.tree.proofs.Same.{tree-of}
 use Rattle.sound.proofs.Held.{domain-same, held-same}
-use Rattle.grow.specs.declared.Slot.{Slot}
-use Rattle.grow.specs.Grow.{SlotIs, wordsIn, treeAt, domainAt, Ready, Outside, SlotHolds}
-
--- ---- the words of a slot
-
-pub slot-length : {s : Slot} {ws : List ℕ} → Ready s ws → length (wordsIn s ws) ≡ treeWords (s .vertices) (s .edges)
-slot-length {s} {ws} r =
-    part-length (slotAt (s .vertices) (s .edges) (s .number)) (treeWords (s .vertices) (s .edges)) ws (omega (arith, r .fits, r .slot .end))
-
--- the part that is lent
-pub mid-slot : {s : Slot} → SlotIs s → (ws : List ℕ) → midOf (s .at) (s .end - s .at) ws ≡ wordsIn s ws
-mid-slot {s} h ws = mid-at ws (treeWords (s .vertices) (s .edges)) (h .at) (omega (arith, h .at, h .end))
-
-pub tree-lent : {s : Slot} {ws : List ℕ} → Ready s ws → treeOf (s .edges) (midOf (s .at) (s .end - s .at) ws) ≡ treeAt s ws
-tree-lent {s} {ws} r = ap (treeOf (s .edges)) (mid-slot (r .slot) ws) ∙ tree-of (s .vertices) (s .edges) (wordsIn s ws) (slot-length r)
+use Rattle.sound.proofs.InUse.{mid-slot, ready-length}
+use Rattle.sound.specs.Facts.{Ready}
+use Rattle.grow.specs.Grow.{Outside, SlotHolds}
 
 -- ---- a part that came back
 
@@ -58,7 +47,7 @@ module _ {s : Slot} {ws : List ℕ} (r : Ready s ws) (ys : List ℕ) (same : len
   ae = omega (arith, r .slot .at, r .slot .end)
 
   pub part-size : length ys ≡ treeWords (s .vertices) (s .edges)
-  part-size = same ∙ ap length (mid-slot (r .slot) ws) ∙ slot-length r
+  part-size = same ∙ ap length (mid-slot (r .slot) ws) ∙ ready-length r
 
   n : length ys ≡ s .end - s .at
   n = omega (arith, part-size, r .slot .at, r .slot .end)
@@ -102,11 +91,16 @@ holds-refl r = record { outside = record { len = refl; word = λ j h. refl }; fo
 -- ---- the graph's words stand before all slots
 
 module _ {s : Slot} {ws left : List ℕ} {u : Tree} (r : Ready s ws) (h : SlotHolds s ws left u) where
-  graph-stays : (j : ℕ) → j ≢ 4 → j < slotsAt (s .vertices) (s .edges) → getD left j 0 ≡ getD ws j 0
+  graph-stays : (j : ℕ) → j ≢ treeCountAt → j < slotsAt (s .vertices) (s .edges) → getD left j 0 ≡ getD ws j 0
   graph-stays j ne b = h .outside .word j (inl (omega arith))
+
+  header-stays : (j : ℕ) → j < headerWords → getD ws j 0 ≡ getD left j 0
+  header-stays j b = sym (h .outside .word j (inl (omega arith)))
 
   pub ready-after : Ready s left
   ready-after = record {
+    vertices = r .vertices ∙ header-stays vertexCountAt (omega arith);
+    edges = r .edges ∙ header-stays edgeCountAt (omega arith);
     slot = r .slot;
     held = held-same (s .vertices) (s .edges) ws left (h .outside .len) graph-stays (r .held);
     fits = omega (arith, r .fits, h .outside .len);

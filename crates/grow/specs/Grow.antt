@@ -7,7 +7,6 @@ use mathlib.Core.List.{List}
 use Prim.Native.Nat.{ℕ, _+_, _<_, _≤_}
 use lib.Dec.{eqb}
 use lib.ListN.{length, getD, set}
-use Rattle.model.specs.Limits.{slotLimit}
 use Rattle.model.specs.declared.CostBound.{CostBound}
 use Rattle.model.specs.Lists.{mem}
 use Rattle.model.specs.Graph.{Domain, choices}
@@ -15,23 +14,17 @@ use Rattle.model.specs.Tree.{Tree, node, closedAt, evaluation, expanded, Growth
 use Rattle.model.specs.Sound.{tree}
 use Rattle.model.specs.Search.{findOf}
 use Rattle.model.specs.Calls.{withTrees}
-use Rattle.layout.specs.Layout.{slotAt, treeWords}
-use Rattle.layout.specs.Read.{treeIn, domainOf, readCache}
-use Rattle.layout.specs.Sound.{slotWords}
-use Rattle.layout.specs.Held.{Held}
+use Rattle.layout.specs.Layout.{slotAt, treeWords, edgesIn, usedIn, verticesIn}
+use Rattle.layout.specs.Read.{readCache}
+use Rattle.layout.specs.Slots.{wordsIn, treeAt, domainAt}
+use Rattle.layout.specs.declared.slots.Slot.{Slot}
 use Rattle.tree.specs.Tree.{Formed}
-use Rattle.sound.specs.Facts.{SoundWords}
+use Rattle.sound.specs.Facts.{SoundWords, Ready}
 use Rattle.grow.specs.declared.Grown.{Grown}
 use Rattle.grow.specs.declared.Next.{Next}
 use Rattle.grow.specs.declared.Next.the-variants as next
-use Rattle.grow.specs.declared.Slot.{Slot}
 
 -- ---- the promise of `grow`
-
--- slot i is in use
-pub record InUse (ws : List ℕ) (i : ℕ) : Type 0 where
-  pub sound : SoundWords ws
-  pub slot : i < getD ws 4 0
 
 -- the model's growing of the tree in slot i
 abbrev pub growthOf : List ℕ → ℕ → List ℕ → CostBound → Growth
@@ -50,43 +43,13 @@ pub record Grew (ws : List ℕ) (i : ℕ) (gs : List ℕ) (b : CostBound) (r : G
   pub solution : r .solution ≡ findOf (growthOf ws i gs b .going)
   pub cache : readCache left ≡ withTrees (readCache ws) (set (readCache ws .trees) i (growthOf ws i gs b .tree))
   pub sound : SoundWords left
-  pub outside : Outside (getD ws 1 0) (getD ws 2 0) i ws left
+  pub outside : Outside (verticesIn ws) (edgesIn ws) i ws left
 
 -- ---- one ticket
 
 -- is the vertex of node n closed in t?
 abbrev pub isClosed : Tree → ℕ → Bool
 isClosed t n = not (eqb (closedAt (t .closed) ((node (t .nodes) n) .vertex)) 0)
-
--- slot i of the words
-abbrev pub slotOf : List ℕ → ℕ → Slot
-slotOf ws i =
-    let m = getD ws 1 0 in
-    let l = getD ws 2 0 in
-    record { vertices = m; edges = l; number = i; at = slotAt m l i; end = slotAt m l i + treeWords m l }
-
--- the places are those of the slot
-pub record SlotIs (s : Slot) : Type 0 where
-  pub few : s .number < slotLimit
-  pub at : s .at ≡ slotAt (s .vertices) (s .edges) (s .number)
-  pub end : s .end ≡ slotAt (s .vertices) (s .edges) (s .number) + treeWords (s .vertices) (s .edges)
-
--- the words that a slot has, and the tree in them
-abbrev pub wordsIn : Slot → List ℕ → List ℕ
-wordsIn s ws = slotWords (s .vertices) (s .edges) (s .number) ws
-
-abbrev pub treeAt : Slot → List ℕ → Tree
-treeAt s ws = treeIn (s .vertices) (s .edges) (wordsIn s ws)
-
-abbrev pub domainAt : Slot → List ℕ → Domain
-domainAt s ws = domainOf (s .vertices) (s .edges) ws
-
--- a slot of a cache whose graph is held, and whose own words are formed
-pub record Ready (s : Slot) (ws : List ℕ) : Type 0 where
-  pub slot : SlotIs s
-  pub held : Held (s .vertices) (s .edges) ws
-  pub fits : s .end ≤ length ws
-  pub formed : Formed (s .edges) (wordsIn s ws)
 
 -- the slot holds the tree u, and all other words are as they were
 pub record SlotHolds (s : Slot) (ws left : List ℕ) (u : Tree) : Type 0 where
@@ -99,23 +62,23 @@ pub record CanPushChoice (s : Slot) (ws : List ℕ) (k e : ℕ) : Type 0 where
   pub ready : Ready s ws
   pub edge : e < s .edges
   pub cost : k ≤ 2100000000
-  pub room : getD (wordsIn s ws) 1 0 < 1 + s .edges
+  pub room : usedIn (wordsIn s ws) < 1 + s .edges
 
 -- the edges of vertex v can be queued
 pub record CanPushChoices (s : Slot) (ws : List ℕ) (v k : ℕ) : Type 0 where
   pub ready : Ready s ws
   pub vertex : v < s .vertices
   pub cost : k ≤ 2100000000
-  pub room : getD (wordsIn s ws) 1 0 + length (choices (domainAt s ws) v) ≤ 1 + s .edges
+  pub room : usedIn (wordsIn s ws) + length (choices (domainAt s ws) v) ≤ 1 + s .edges
 
 -- node n was taken from the queue
 pub record CanVisit (s : Slot) (ws : List ℕ) (n : ℕ) : Type 0 where
   pub ready : Ready s ws
-  pub used : n < getD (wordsIn s ws) 1 0
+  pub used : n < usedIn (wordsIn s ws)
   pub vertex : node (treeAt s ws .nodes) n .vertex < s .vertices
   pub cost : node (treeAt s ws .nodes) n .cost ≤ 2100000000
   pub room : isClosed (treeAt s ws) n ≡ false
-      → getD (wordsIn s ws) 1 0 + length (choices (domainAt s ws) (node (treeAt s ws .nodes) n .vertex)) ≤ 1 + s .edges
+      → usedIn (wordsIn s ws) + length (choices (domainAt s ws) (node (treeAt s ws .nodes) n .vertex)) ≤ 1 + s .edges
 
 -- the tree, and whether to go on, after node n was taken: "A ticket for a closed motif is spent and skipped. Any other .."
 abbrev pub visitedIf : Bool → Domain → Tree → ℕ → Tree

@@ -1,6 +1,10 @@
 // Growing a tree of a cache, at most ten tickets at a time: the Rust's loop `'grow` of `step`.
 use edges::NextEdge;
 use edges::next_edge;
+use layout::lists::contains;
+use layout::slots::Slot;
+use layout::slots::slot_of;
+use layout::slots::slot_words;
 use layout::wide;
 use model::CostBound;
 use model::Solution;
@@ -9,14 +13,13 @@ use tree::Node;
 use tree::partial_keyed_closed_set::CloseResult;
 use tree::partial_keyed_closed_set::close;
 ghost use mathlib.Core.Path.{_≡_};
-ghost use Prim.Native.Nat.{_<_, _≤_};
-ghost use lib.ListN.{length, getD};
-ghost use Rattle.model.specs.Limits.{slotLimit};
-ghost use Rattle.model.specs.Lists.{mem};
+ghost use Prim.Native.Nat.{_<_};
 ghost use Rattle.model.specs.Graph.{choices};
 ghost use Rattle.model.specs.Tree.{pushAll, pushNode, child, above};
-ghost use Rattle.layout.specs.Layout.{Sized};
-ghost use Rattle.grow.specs.Grow.{InUse, Grew, slotOf, treeAt, domainAt, SlotHolds, CanPushChoice, CanPushChoices, CanVisit, Visits, GoesOn};
+ghost use Rattle.layout.specs.Slots.{treeAt, domainAt};
+ghost use Rattle.sound.specs.Facts.{InUse};
+ghost use Rattle.queue.specs.Queue.{figures};
+ghost use Rattle.grow.specs.Grow.{Grew, SlotHolds, CanPushChoice, CanPushChoices, CanVisit, Visits, GoesOn};
 
 // "at most ten tickets": the Rust's `iterations_per_step`.
 pub const ITERATIONS_PER_STEP: usize = 10;
@@ -25,15 +28,6 @@ pub const ITERATIONS_PER_STEP: usize = 10;
 pub struct Grown {
     pub tickets: usize,
     pub solution: Solution,
-}
-
-// Where the words of a tree stand.
-pub struct Slot {
-    pub vertices: usize,
-    pub edges: usize,
-    pub number: usize,
-    pub at: usize,
-    pub end: usize,
 }
 
 // Whether the growing goes on after a ticket.
@@ -84,30 +78,15 @@ pub fn grow(words: &mut [u32], slot: usize, goals: &[u32], bound: CostBound) -> 
     }
 }
 
-pub fn slot_of(words: &[u32], slot: usize) -> Slot
-    requires { ⌜ (5 ≤ length (now words)) × (Sized (getD (now words) 1 0) (getD (now words) 2 0) × (slot < slotLimit)) ⌝ }
-    ensures { λ r. ⌜ r ≡ slotOf (now (words .entry)) slot ⌝ }
-{
-    let vertices = layout::header(words, layout::VERTICES);
-    let edges = layout::header(words, layout::EDGES);
-    let at = layout::slot_at(vertices, edges, slot);
-    Slot {
-        vertices,
-        edges,
-        number: slot,
-        at,
-        end: at + layout::tree_words(vertices, edges),
-    }
-}
-
 // A node was taken from the queue: unless its vertex is closed already, it closes it and its edges are queued.
 fn visit(words: &mut [u32], s: Slot, node: u32, goals: &[u32], bound: CostBound) -> Next
     requires { ⌜ CanVisit s (now words) node ⌝ }
     ensures { λ r. ⌜ Visits s (now (words .entry)) (now (words .exit)) node (now (goals .entry)) bound r ⌝ }
 {
+    let tree = slot_words(words, s.number);
+    let vertex = layout::node_vertex(words, tree, wide(node));
+    let cost = layout::node_cost(tree, wide(node));
     let Slot { at, end, .. } = s;
-    let vertex = layout::node_word(&words[at..end], wide(node), layout::NODE_VERTEX);
-    let cost = layout::node_word(&words[at..end], wide(node), layout::NODE_COST);
     match close(&mut words[at..end], s.edges, wide(vertex), node) {
         CloseResult::Rejected => {
             return Next::On;
@@ -115,13 +94,13 @@ fn visit(words: &mut [u32], s: Slot, node: u32, goals: &[u32], bound: CostBound)
         CloseResult::Accepted => {}
     }
     push_choices(words, s, node, vertex, cost);
-    going_on(goals, bound, vertex, cost)
+    going_on(goals, bound, vertex, queue::evaluation_of(cost))
 }
 
 // Queues the edges of a vertex that a node closed.
 fn push_choices(words: &mut [u32], s: Slot, node: u32, vertex: u32, cost: u32)
     requires { ⌜ CanPushChoices s (now words) vertex cost ⌝ }
-    ensures { λ _. ⌜ SlotHolds s (now (words .entry)) (now (words .exit)) (pushAll (domainAt s (now (words .entry))) node cost (treeAt s (now (words .entry))) (choices (domainAt s (now (words .entry))) vertex)) ⌝ }
+    ensures { λ _. ⌜ SlotHolds s (now (words .entry)) (now (words .exit)) (pushAll (domainAt s (now (words .entry))) node (figures cost) (treeAt s (now (words .entry))) (choices (domainAt s (now (words .entry))) vertex)) ⌝ }
 {
     let numbers = layout::numbers_at(s.vertices, s.edges);
     let slots = layout::slots_at(s.vertices, s.edges);
@@ -141,12 +120,12 @@ fn push_choices(words: &mut [u32], s: Slot, node: u32, vertex: u32, cost: u32)
 // Queues an edge, by its number.
 fn push_choice(words: &mut [u32], s: Slot, node: u32, cost: u32, edge: u32)
     requires { ⌜ CanPushChoice s (now words) cost edge ⌝ }
-    ensures { λ _. ⌜ SlotHolds s (now (words .entry)) (now (words .exit)) (pushNode (treeAt s (now (words .entry))) (child (domainAt s (now (words .entry))) node cost edge)) ⌝ }
+    ensures { λ _. ⌜ SlotHolds s (now (words .entry)) (now (words .exit)) (pushNode (treeAt s (now (words .entry))) (child (domainAt s (now (words .entry))) node (figures cost) edge)) ⌝ }
 {
     let number = wide(edge);
     let child = Node {
-        vertex: layout::edge_word(words, s.vertices, number, layout::TO),
-        cost: cost + layout::edge_word(words, s.vertices, number, layout::COST),
+        vertex: layout::edge_to(words, s.vertices, number),
+        cost: cost + layout::edge_cost(words, s.vertices, number),
         parent: node,
         edge,
     };
@@ -154,37 +133,24 @@ fn push_choice(words: &mut [u32], s: Slot, node: u32, cost: u32, edge: u32)
     tree::push_node(&mut words[at..end], s.edges, child);
 }
 
-// A goal is a find and stops; then a cost above the bound stops.
-fn going_on(goals: &[u32], bound: CostBound, vertex: u32, cost: u32) -> Next
-    ensures { λ r. ⌜ GoesOn (now (goals .entry)) bound vertex cost r ⌝ }
+// A goal is a find and stops; then an evaluation above the bound stops.
+fn going_on(goals: &[u32], bound: CostBound, vertex: u32, evaluation: u64) -> Next
+    ensures { λ r. ⌜ GoesOn (now (goals .entry)) bound vertex evaluation r ⌝ }
 {
     if contains(goals, vertex) {
         return Next::Found;
     }
-    if is_above(cost, bound) {
+    if is_above(evaluation, bound) {
         return Next::Over;
     }
     Next::On
 }
 
-pub fn contains(goals: &[u32], vertex: u32) -> bool
-    ensures { λ r. ⌜ r ≡ mem vertex (now (goals .entry)) ⌝ }
-{
-    let mut i = 0;
-    while i < goals.len() {
-        if goals[i] == vertex {
-            return true;
-        }
-        i += 1;
-    }
-    false
-}
-
-fn is_above(cost: u32, bound: CostBound) -> bool
-    ensures { λ r. ⌜ r ≡ above cost bound ⌝ }
+fn is_above(evaluation: u64, bound: CostBound) -> bool
+    ensures { λ r. ⌜ r ≡ above evaluation bound ⌝ }
 {
     match bound {
         CostBound::Unbounded => false,
-        CostBound::Bound(b) => b < cost,
+        CostBound::Bound(b) => b < evaluation,
     }
 }

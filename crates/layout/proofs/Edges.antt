@@ -7,14 +7,14 @@ use native.Mathlib.Omega.{arith}
 use lib.ListN.{length, getD, take, drop}
 use lib.Seq.{drop-drop, take-at, drop-at}
 use Rattle.model.specs.Graph.{Edge, Graph, noEdge, vertexCount, edgeCount, from, to, cost}
-use Rattle.layout.specs.Layout.{initialAt, edgesAt, part}
+use Rattle.layout.specs.Layout.{headerWords, initialAt, initialIn, edgesAt, edgeAt, fromIn, toIn, edgeCostIn, part}
 use Rattle.layout.specs.Words.{edgeWords}
-use Rattle.layout.specs.Read.{edgesIn, graphIn}
+use Rattle.layout.specs.Read.{readEdges, graphIn}
 use Rattle.layout.proofs.Places.{word-behind, part-at, part-length}
 
 -- ---- counts
 
-edges-in-length : (l : ℕ) (ws : List ℕ) → length (edgesIn l ws) ≡ l
+edges-in-length : (l : ℕ) (ws : List ℕ) → length (readEdges l ws) ≡ l
 edges-in-length zero ws = refl
 edges-in-length (suc l) ws = ap suc (edges-in-length l (drop 3 ws))
 
@@ -22,9 +22,9 @@ pub edge-count-in : (m l : ℕ) (ws : List ℕ) → edgeCount (graphIn m l ws) �
 unfolding graphIn
 edge-count-in m l ws = edges-in-length l (drop (edgesAt m) ws)
 
-pub vertex-count-in : (m l : ℕ) (ws : List ℕ) → 5 + m ≤ length ws → vertexCount (graphIn m l ws) ≡ m
+pub vertex-count-in : (m l : ℕ) (ws : List ℕ) → edgesAt m ≤ length ws → vertexCount (graphIn m l ws) ≡ m
 unfolding graphIn
-vertex-count-in m l ws h = part-length 5 m ws h
+vertex-count-in m l ws h = part-length initialAt m ws h
 
 pub edge-words-length : (es : List Edge) → length (edgeWords es) ≡ 3 * length es
 edge-words-length [] = refl
@@ -38,64 +38,64 @@ any-default [] i a b h = absurd (omega arith)
 any-default (w ∷ ws) zero a b h = refl
 any-default (w ∷ ws) (suc i) a b h = any-default ws i a b (omega arith)
 
-pub initial-word : (m l : ℕ) (ws : List ℕ) (v a : ℕ) → v < m → 5 + m ≤ length ws → getD (graphIn m l ws .initial) v a ≡ getD ws (initialAt + v) 0
+pub initial-word : (m l : ℕ) (ws : List ℕ) (v a : ℕ) → v < m → edgesAt m ≤ length ws → getD (graphIn m l ws .initial) v a ≡ initialIn ws v
 unfolding graphIn
 initial-word m l ws v a h fits = any-default (part initialAt m ws) v a 0 (omega (arith, part-length initialAt m ws fits)) ∙ part-at initialAt m ws v h
 
 -- ---- an edge's words
 
 -- the edge whose words stand from `at` on
-abbrev edgeAt : List ℕ → ℕ → Edge
-edgeAt ws at = record { from = getD ws at 0; to = getD ws (at + 1) 0; cost = getD ws (at + 2) 0 }
+abbrev edgeFrom : List ℕ → ℕ → Edge
+edgeFrom ws at = record { from = getD ws at 0; to = getD ws (at + 1) 0; cost = getD ws (at + 2) 0 }
 
-edge-at-drop : (n : ℕ) (ws : List ℕ) (j k : ℕ) → n + j ≡ k → edgeAt (drop n ws) j ≡ edgeAt ws k
+edge-at-drop : (n : ℕ) (ws : List ℕ) (j k : ℕ) → n + j ≡ k → edgeFrom (drop n ws) j ≡ edgeFrom ws k
 edge-at-drop n ws j k e = λ i. record {
   from = word-behind n ws j k e i;
   to = word-behind n ws (j + 1) (k + 1) (omega arith) i;
   cost = word-behind n ws (j + 2) (k + 2) (omega arith) i;
 }
 
-edges-in-at : (l : ℕ) (ws : List ℕ) (e : ℕ) → e < l → getD (edgesIn l ws) e noEdge ≡ edgeAt ws (3 * e)
+edges-in-at : (l : ℕ) (ws : List ℕ) (e : ℕ) → e < l → getD (readEdges l ws) e noEdge ≡ edgeFrom ws (3 * e)
 edges-in-at zero ws e h = absurd (omega arith)
 edges-in-at (suc l) ws zero h = refl
 edges-in-at (suc l) ws (suc e) h = edges-in-at l (drop 3 ws) e (omega arith) ∙ edge-at-drop 3 ws (3 * e) (3 * suc e) (omega arith)
 
-edge-in : (m l : ℕ) (ws : List ℕ) (e : ℕ) → e < l → getD (graphIn m l ws .edges) e noEdge ≡ edgeAt ws (edgesAt m + 3 * e)
+edge-in : (m l : ℕ) (ws : List ℕ) (e : ℕ) → e < l → getD (graphIn m l ws .edges) e noEdge ≡ edgeFrom ws (edgeAt m e)
 unfolding graphIn
-edge-in m l ws e h = edges-in-at l (drop (edgesAt m) ws) e h ∙ edge-at-drop (edgesAt m) ws (3 * e) (edgesAt m + 3 * e) refl
+edge-in m l ws e h = edges-in-at l (drop (edgesAt m) ws) e h ∙ edge-at-drop (edgesAt m) ws (3 * e) (edgeAt m e) refl
 
-pub from-word : (m l : ℕ) (ws : List ℕ) (e : ℕ) → e < l → from (graphIn m l ws) e ≡ getD ws (edgesAt m + 3 * e) 0
+pub from-word : (m l : ℕ) (ws : List ℕ) (e : ℕ) → e < l → from (graphIn m l ws) e ≡ fromIn m ws e
 from-word m l ws e h = ap (λ (x : Edge). x .from) (edge-in m l ws e h)
 
-pub to-word : (m l : ℕ) (ws : List ℕ) (e : ℕ) → e < l → to (graphIn m l ws) e ≡ getD ws (edgesAt m + 3 * e + 1) 0
+pub to-word : (m l : ℕ) (ws : List ℕ) (e : ℕ) → e < l → to (graphIn m l ws) e ≡ toIn m ws e
 to-word m l ws e h = ap (λ (x : Edge). x .to) (edge-in m l ws e h)
 
-pub cost-word : (m l : ℕ) (ws : List ℕ) (e : ℕ) → e < l → cost (graphIn m l ws) e ≡ getD ws (edgesAt m + 3 * e + 2) 0
+pub cost-word : (m l : ℕ) (ws : List ℕ) (e : ℕ) → e < l → cost (graphIn m l ws) e ≡ edgeCostIn m ws e
 cost-word m l ws e h = ap (λ (x : Edge). x .cost) (edge-in m l ws e h)
 
 -- ---- a graph's own words
 
-edges-in-words : (es : List Edge) (rest : List ℕ) → edgesIn (length es) (edgeWords es ++ rest) ≡ es
+edges-in-words : (es : List Edge) (rest : List ℕ) → readEdges (length es) (edgeWords es ++ rest) ≡ es
 edges-in-words [] rest = refl
 edges-in-words (e ∷ es) rest = ap (λ (xs : List Edge). e ∷ xs) (edges-in-words es rest)
 
 -- h: the header
-pub graph-in : (h : List ℕ) (g : Graph) (rest : List ℕ) → length h ≡ 5
+pub graph-in : (h : List ℕ) (g : Graph) (rest : List ℕ) → length h ≡ headerWords
     → graphIn (vertexCount g) (edgeCount g) (h ++ (g .initial ++ (edgeWords (g .edges) ++ rest))) ≡ g
 unfolding graphIn
-graph-in h g rest five = λ i. record { initial = initials i; edges = edges i }
+graph-in h g rest size = λ i. record { initial = initials i; edges = edges i }
   where
     words : List ℕ
     words = edgeWords (g .edges) ++ rest
 
-    behind : drop 5 (h ++ (g .initial ++ words)) ≡ g .initial ++ words
-    behind = drop-at h (g .initial ++ words) 5 five
+    behind : drop headerWords (h ++ (g .initial ++ words)) ≡ g .initial ++ words
+    behind = drop-at h (g .initial ++ words) headerWords size
 
-    initials : take (vertexCount g) (drop 5 (h ++ (g .initial ++ words))) ≡ g .initial
+    initials : take (vertexCount g) (drop headerWords (h ++ (g .initial ++ words))) ≡ g .initial
     initials = ap (take (vertexCount g)) behind ∙ take-at (g .initial) words (vertexCount g) refl
 
-    edges : edgesIn (edgeCount g) (drop (edgesAt (vertexCount g)) (h ++ (g .initial ++ words))) ≡ g .edges
+    edges : readEdges (edgeCount g) (drop (edgesAt (vertexCount g)) (h ++ (g .initial ++ words))) ≡ g .edges
     edges =
-        ap (edgesIn (edgeCount g))
-        (sym (drop-drop (vertexCount g) 5 (h ++ (g .initial ++ words))) ∙ ap (drop (vertexCount g)) behind ∙ drop-at (g .initial) words (vertexCount g) refl)
+        ap (readEdges (edgeCount g))
+        (sym (drop-drop (vertexCount g) headerWords (h ++ (g .initial ++ words))) ∙ ap (drop (vertexCount g)) behind ∙ drop-at (g .initial) words (vertexCount g) refl)
         ∙ edges-in-words (g .edges) rest

@@ -7,6 +7,7 @@ use mathlib.Core.List.{List, [], _∷_, _++_}
 use Prim.Native.Nat.{ℕ}
 use lib.ListN.{set, take, replicate}
 use Rattle.model.specs.Lists.{numbers, allb, upto}
+use Rattle.model.specs.Worth.{evaluationOf, weight}
 use Rattle.model.specs.Graph.{Domain, forward}
 use Rattle.model.specs.Tree.{Tree}
 use Rattle.model.specs.Sound.{soundTests, soundb, distinctb}
@@ -41,12 +42,12 @@ sample =
     ∷ []
 
 sample-sound : soundWordsb sample ≡ true
-unfolding soundWordsb sample
+unfolding soundWordsb sample evaluationOf weight
 sample-sound = refl
 
 -- "words past that are never written", and are not looked at
 past-the-formula : soundWordsb (sample ++ (7 ∷ [])) ≡ true
-unfolding soundWordsb sample
+unfolding soundWordsb sample evaluationOf weight
 past-the-formula = refl
 
 -- one vertex, closed by the root of its tree; in docs/DIFFERENCES.md the words of entry 8
@@ -72,7 +73,7 @@ looped =
     ∷ []
 
 looped-sound : soundWordsb looped ≡ true
-unfolding soundWordsb looped
+unfolding soundWordsb looped evaluationOf weight
 looped-sound = refl
 
 -- m vertices, l edges and t slots, and n words 0 behind the header
@@ -131,7 +132,7 @@ slots-65 = refl
 
 -- trees in use: at most T; the words of the second and third slot stay where they are
 trees-at-slots : soundWordsb (set sample 3 2) ≡ true
-unfolding soundWordsb sample
+unfolding soundWordsb sample evaluationOf weight
 trees-at-slots = refl
 
 trees-past-slots : soundWordsb (set sample 3 1) ≡ false
@@ -142,7 +143,7 @@ trees-past-slots = refl
 
 -- "start cost and picks at most 999,999"
 initial-at-limit : soundWordsb (set sample 7 999999) ≡ true
-unfolding soundWordsb sample
+unfolding soundWordsb sample evaluationOf weight
 initial-at-limit = refl
 
 initial-over-limit : soundWordsb (set sample 7 1000000) ≡ false
@@ -150,7 +151,7 @@ unfolding soundWordsb sample
 initial-over-limit = refl
 
 cost-at-limit : soundWordsb (set sample 14 999999) ≡ true
-unfolding soundWordsb sample
+unfolding soundWordsb sample evaluationOf weight
 cost-at-limit = refl
 
 cost-over-limit : soundWordsb (set sample 14 1000000) ≡ false
@@ -223,16 +224,16 @@ unfolding soundWordsb looped
 parent-not-closed = refl
 
 edge-leaves-elsewhere : soundWordsb (set (set (set (set sample 40 1) 38 3) 45 2) 46 1) ≡ false
-unfolding soundWordsb sample
+unfolding soundWordsb sample evaluationOf weight
 edge-leaves-elsewhere = refl
 
 -- the edge of node 2, which is at 2, goes from 0 to 0
 edge-enters-elsewhere : soundWordsb (set sample 16 0) ≡ false
-unfolding soundWordsb sample
+unfolding soundWordsb sample evaluationOf weight
 edge-enters-elsewhere = refl
 
 cost-wrong : soundWordsb (set sample 38 8) ≡ false
-unfolding soundWordsb sample
+unfolding soundWordsb sample evaluationOf weight
 cost-wrong = refl
 
 -- "queue words are distinct nodes in heap order by cost, then number"
@@ -245,16 +246,16 @@ unfolding soundWordsb sample
 queue-word-twice = refl
 
 not-in-heap-order : soundWordsb (set (set sample 45 2) 46 1) ≡ false
-unfolding soundWordsb sample
+unfolding soundWordsb sample evaluationOf weight
 not-in-heap-order = refl
 
 -- nodes 1 and 2 cost the same
 equal-costs-by-number : soundWordsb (set (set sample 17 4) 38 4) ≡ true
-unfolding soundWordsb sample
+unfolding soundWordsb sample evaluationOf weight
 equal-costs-by-number = refl
 
 equal-costs-not-by-number : soundWordsb (set (set (set (set sample 17 4) 38 4) 45 2) 46 1) ≡ false
-unfolding soundWordsb sample
+unfolding soundWordsb sample evaluationOf weight
 equal-costs-not-by-number = refl
 
 -- "a closed word names a node of that motif costing no more than any waiting node"
@@ -263,17 +264,17 @@ unfolding soundWordsb smallest
 closed-by-no-node = refl
 
 closed-by-other : soundWordsb (set sample 52 1) ≡ false
-unfolding soundWordsb sample
+unfolding soundWordsb sample evaluationOf weight
 closed-by-other = refl
 
 -- node 2, of cost 9, closes its vertex while node 1, of cost 4, waits
 closed-dearer-than-waiting : soundWordsb (set (set (set sample 51 3) 46 0) 28 1) ≡ false
-unfolding soundWordsb sample
+unfolding soundWordsb sample evaluationOf weight
 closed-dearer-than-waiting = refl
 
 -- "nodes used are at most 1 plus the links leaving closed motifs": a double of node 1
 more-nodes-than-edges-leave : soundWordsb (set (set (set (set sample 27 4) 41 1) 42 4) 44 0) ≡ false
-unfolding soundWordsb sample
+unfolding soundWordsb sample evaluationOf weight
 more-nodes-than-edges-leave = refl
 
 -- "the root's motif is closed or the root waits"
@@ -283,30 +284,30 @@ root-lost = refl
 
 -- "each link leaving a closed motif reaches a motif closed, or waiting, at no more than the sum": node 2 waits no more
 edge-not-followed : soundWordsb (set (set sample 46 0) 28 1) ≡ false
-unfolding soundWordsb sample
+unfolding soundWordsb sample evaluationOf weight
 edge-not-followed = refl
 
 -- edge 0 made to enter 2, where only node 2 waits, at 9
 reached-dearer : soundWordsb (set (set (set (set (set sample 10 2) 33 2) 45 2) 46 0) 28 1) ≡ false
-unfolding soundWordsb sample
+unfolding soundWordsb sample evaluationOf weight
 reached-dearer = refl
 
 -- edges 0 and 2 enter 1, which is closed at 9
 closed-too-dear : soundWordsb (set (set (set (set (set (set (set sample 13 1) 16 1) 37 1) 50 3) 28 0) 45 0) 46 0) ≡ false
-unfolding soundWordsb sample
+unfolding soundWordsb sample evaluationOf weight
 closed-too-dear = refl
 
 -- "Unused words, emptied queue words too, are 0, also in a sound book."
 unused-node-word : soundWordsb (set sample 42 1) ≡ false
-unfolding soundWordsb sample
+unfolding soundWordsb sample evaluationOf weight
 unused-node-word = refl
 
 unused-queue-word : soundWordsb (set sample 47 1) ≡ false
-unfolding soundWordsb sample
+unfolding soundWordsb sample evaluationOf weight
 unused-queue-word = refl
 
 unused-slot-word : soundWordsb (set sample 87 1) ≡ false
-unfolding soundWordsb sample
+unfolding soundWordsb sample evaluationOf weight
 unused-slot-word = refl
 
 -- ---- clauses that others imply in the whole

@@ -1,50 +1,90 @@
--- The tree that words hold, word by word.
+-- The tree that words hold, word by word: what its nodes and counts are by their words, and the words by them.
 -- Assumes nothing.
-use mathlib.Core.Path.{_≡_, refl, ap, _∙_}
+use mathlib.Core.Path.{_≡_, sym, ap, _∙_}
 use mathlib.Core.List.{List}
-use Prim.Native.Nat.{ℕ, zero, suc, _+_, _*_, _<_, _≤_}
+use Prim.Native.Nat.{ℕ, _+_, _-_, _/_, _<_, _≤_}
+use native.Mathlib.Nat.{add-zero}
+use native.Mathlib.Decide.{ℕ-discrete}
 use native.Mathlib.Omega.{arith}
-use lib.ListN.{length, getD, drop}
-use Rattle.model.specs.Tree.{Node, node, closedAt}
-use Rattle.layout.specs.Layout.{nodesAt, nodeAt, closedWordsAt}
-use Rattle.layout.specs.Read.{nodesIn, treeIn}
-use Rattle.layout.proofs.Places.{word-behind, part-at, part-length}
+use lib.ListN.{length, getD, length-map}
+use lib.Seq.{ext-getD}
+use Rattle.model.specs.Lists.{numbers}
+use Rattle.model.specs.Tree.{Node, noNode, node, closedAt}
+use Rattle.model.proofs.Lists.{up-length, map-up-at}
+use Rattle.layout.specs.Layout.{startAt, usedAt, queuedAt, startIn, usedIn, queuedIn, nodesAt, nodeSize, nodeAt, closedWordsAt, closedWordIn}
+use Rattle.layout.specs.Words.{nodeWords}
+use Rattle.layout.specs.Read.{nodeIn, nodesIn, treeIn}
+use Rattle.layout.proofs.Places.{part-at, part-length}
 
--- the node whose words stand from `at` on
-abbrev pub nodeIn : List ℕ → ℕ → Node
-nodeIn ws at = record { vertex = getD ws at 0; cost = getD ws (at + 1) 0; parent = getD ws (at + 2) 0; edge = getD ws (at + 3) 0 }
-
-pub nodes-in-length : (n : ℕ) (ws : List ℕ) → length (nodesIn n ws) ≡ n
-nodes-in-length zero ws = refl
-nodes-in-length (suc n) ws = ap suc (nodes-in-length n (drop 4 ws))
-
-node-drop : (n : ℕ) (ws : List ℕ) (j k : ℕ) → n + j ≡ k → nodeIn (drop n ws) j ≡ nodeIn ws k
-node-drop n ws j k e = λ i. record {
-  vertex = word-behind n ws j k e i;
-  cost = word-behind n ws (j + 1) (k + 1) (omega arith) i;
-  parent = word-behind n ws (j + 2) (k + 2) (omega arith) i;
-  edge = word-behind n ws (j + 3) (k + 3) (omega arith) i;
-}
-
-nodes-in-at : (n : ℕ) (ws : List ℕ) (k : ℕ) → k < n → node (nodesIn n ws) k ≡ nodeIn ws (4 * k)
-nodes-in-at zero ws k h = absurd (omega arith)
-nodes-in-at (suc n) ws zero h = refl
-nodes-in-at (suc n) ws (suc k) h = nodes-in-at n (drop 4 ws) k (omega arith) ∙ node-drop 4 ws (4 * k) (4 * suc k) (omega arith)
+pub nodes-in-length : (n : ℕ) (t : List ℕ) → length (nodesIn n t) ≡ n
+nodes-in-length n t = length-map (numbers n) (nodeIn t) ∙ up-length n 0
 
 -- node k of the n that stand in a tree's own words
-pub node-at : (n : ℕ) (t : List ℕ) (k : ℕ) → k < n → node (nodesIn n (drop nodesAt t)) k ≡ nodeIn t (nodeAt k)
-node-at n t k h = nodes-in-at n (drop nodesAt t) k h ∙ node-drop nodesAt t (4 * k) (nodeAt k) refl
+pub node-at : (n : ℕ) (t : List ℕ) (k : ℕ) → k < n → node (nodesIn n t) k ≡ nodeIn t k
+node-at n t k h = map-up-at (nodeIn t) noNode n 0 k h ∙ ap (nodeIn t) (omega arith)
+
+-- ---- the words of a node
+
+-- words that hold those of x
+pub words-node : (t : List ℕ) (k : ℕ) (x : Node) → ((i : ℕ) → i < nodeSize → getD t (nodeAt k + i) 0 ≡ getD (nodeWords x) i 0) → nodeIn t k ≡ x
+words-node t k x f = λ i. record {
+  vertex = (ap (λ (j : ℕ). getD t j 0) (sym (add-zero (nodeAt k))) ∙ f 0 (omega arith)) i;
+  cost = f 1 (omega arith) i;
+  parent = f 2 (omega arith) i;
+  edge = f 3 (omega arith) i;
+}
+
+-- words that stayed hold the same node
+pub node-same : (s t : List ℕ) (k : ℕ) → ((j : ℕ) → nodeAt k ≤ j → j < nodeAt k + nodeSize → getD t j 0 ≡ getD s j 0) → nodeIn t k ≡ nodeIn s k
+node-same s t k f = λ i. record {
+  vertex = f (nodeAt k) (omega arith) (omega arith) i;
+  cost = f (nodeAt k + 1) (omega arith) (omega arith) i;
+  parent = f (nodeAt k + 2) (omega arith) (omega arith) i;
+  edge = f (nodeAt k + 3) (omega arith) (omega arith) i;
+}
+
+pub nodes-same : (n : ℕ) (s t : List ℕ) → ((j : ℕ) → nodesAt ≤ j → j < nodeAt n → getD t j 0 ≡ getD s j 0) → nodesIn n t ≡ nodesIn n s
+nodes-same n s t f =
+    ext-getD noNode (nodesIn n t) (nodesIn n s) (nodes-in-length n t ∙ sym (nodes-in-length n s)) (λ k b.
+    let h : k < n = omega (arith, nodes-in-length n t) in
+    node-at n t k h ∙ node-same s t k (λ j low high. f j (omega arith) (omega arith)) ∙ sym (node-at n s k h))
+
+-- the node fixes its words
+pub node-words : (s t : List ℕ) (k j : ℕ) → nodeAt k ≤ j → j < nodeAt k + nodeSize → nodeIn s k ≡ nodeIn t k → getD s j 0 ≡ getD t j 0
+node-words s t k j low high e = elim (ℕ-discrete j (nodeAt k)) [
+  | yes q ↦ rw q (ap (λ (x : Node). x .vertex) e)
+  | no n0 ↦ elim (ℕ-discrete j (nodeAt k + 1)) [
+    | yes q ↦ rw q (ap (λ (x : Node). x .cost) e)
+    | no n1 ↦ elim (ℕ-discrete j (nodeAt k + 2)) [
+      | yes q ↦ rw q (ap (λ (x : Node). x .parent) e)
+      | no n2 ↦ let q : j ≡ nodeAt k + 3 = omega arith in rw q (ap (λ (x : Node). x .edge) e)
+    ]
+  ]
+]
+
+-- each place behind the header is one of a node's
+pub node-of : (j : ℕ) → nodesAt ≤ j → (k : ℕ) × ((nodeAt k ≤ j) × (j < nodeAt k + nodeSize))
+node-of j h = ((j - nodesAt) / nodeSize, (omega arith, omega arith))
+
+-- ---- a tree's own words
+
+pub header-words : (s t : List ℕ) → startIn s ≡ startIn t → usedIn s ≡ usedIn t → (j : ℕ) → j < nodesAt → (j ≡ queuedAt → queuedIn s ≡ queuedIn t)
+    → getD s j 0 ≡ getD t j 0
+header-words s t start used j h queued = elim (ℕ-discrete j startAt) [
+  | yes e ↦ rw e start
+  | no n0 ↦ elim (ℕ-discrete j usedAt) [ yes e ↦ rw e used | no n1 ↦ let e : j ≡ queuedAt = omega arith in rw e (queued e) ]
+]
 
 module _ (m l : ℕ) (t : List ℕ) where
-  pub tree-nodes : length (treeIn m l t .nodes) ≡ getD t 1 0
+  pub tree-nodes : length (treeIn m l t .nodes) ≡ usedIn t
   unfolding treeIn
-  tree-nodes = nodes-in-length (getD t 1 0) (drop nodesAt t)
+  tree-nodes = nodes-in-length (usedIn t) t
 
-  pub tree-node : (k : ℕ) → k < getD t 1 0 → node (treeIn m l t .nodes) k ≡ nodeIn t (nodeAt k)
+  pub tree-node : (k : ℕ) → k < usedIn t → node (treeIn m l t .nodes) k ≡ nodeIn t k
   unfolding treeIn
-  tree-node k h = node-at (getD t 1 0) t k h
+  tree-node k h = node-at (usedIn t) t k h
 
-  pub tree-closed : (v : ℕ) → v < m → closedAt (treeIn m l t .closed) v ≡ getD t (closedWordsAt l + v) 0
+  pub tree-closed : (v : ℕ) → v < m → closedAt (treeIn m l t .closed) v ≡ closedWordIn l t v
   unfolding treeIn
   tree-closed v h = part-at (closedWordsAt l) m t v h
 

@@ -2,10 +2,10 @@
 -- Assumes nothing.
 use mathlib.Core.Path.{_≡_}
 use mathlib.Core.List.{List}
-use Prim.Native.Nat.{ℕ, _+_, _<_, _≤_}
+use Prim.Native.Nat.{ℕ, _<_, _≤_}
 use lib.ListN.{length, getD}
 use Rattle.model.specs.Graph.{Accepted, edgeNumbers}
-use Rattle.layout.specs.Layout.{Sized, placesAt, numbersAt, slotsAt}
+use Rattle.layout.specs.Layout.{Sized, placeIn, numberIn, slotsAt}
 use Rattle.layout.specs.Words.{firstPlace}
 use Rattle.layout.specs.Read.{domainOf}
 
@@ -14,5 +14,5 @@ pub record Held (m l : ℕ) (ws : List ℕ) : Type 0 where
   pub sized : Sized m l
   pub fits : slotsAt m l ≤ length ws
   pub accepted : Accepted (domainOf m l ws .graph)
-  pub place : (v : ℕ) → v ≤ m → getD ws (placesAt m l + v) 0 ≡ firstPlace (domainOf m l ws) v
-  pub number : (p : ℕ) → p < l → getD ws (numbersAt m l + p) 0 ≡ getD (edgeNumbers (domainOf m l ws)) p 0
+  pub place : (v : ℕ) → v ≤ m → placeIn m l ws v ≡ firstPlace (domainOf m l ws) v
+  pub number : (p : ℕ) → p < l → numberIn m l ws p ≡ getD (edgeNumbers (domainOf m l ws)) p 0

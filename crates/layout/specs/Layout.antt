@@ -2,48 +2,139 @@
 -- Assumes nothing.
 use mathlib.Core.List.{List}
 use Prim.Native.Nat.{ℕ, _+_, _*_, _<_, _≤_}
-use lib.ListN.{take, drop}
+use lib.ListN.{getD, take, drop}
 use Rattle.model.specs.Limits.{vertexLimit, edgeLimit}
 
 -- "Header, 5 words: direction, M, L, T, trees in use."
 abbrev pub headerWords : ℕ
 headerWords = 5
 
+abbrev pub directionAt : ℕ
+directionAt = 0
+
+abbrev pub vertexCountAt : ℕ
+vertexCountAt = 1
+
+abbrev pub edgeCountAt : ℕ
+edgeCountAt = 2
+
+abbrev pub slotCountAt : ℕ
+slotCountAt = 3
+
+abbrev pub treeCountAt : ℕ
+treeCountAt = 4
+
+abbrev pub directionIn : List ℕ → ℕ
+directionIn ws = getD ws directionAt 0
+
+abbrev pub verticesIn : List ℕ → ℕ
+verticesIn ws = getD ws vertexCountAt 0
+
+abbrev pub edgesIn : List ℕ → ℕ
+edgesIn ws = getD ws edgeCountAt 0
+
+abbrev pub slotsIn : List ℕ → ℕ
+slotsIn ws = getD ws slotCountAt 0
+
+abbrev pub treesIn : List ℕ → ℕ
+treesIn ws = getD ws treeCountAt 0
+
 -- "Then M start costs (4294967295 for `-`), L links of from, to, picks, M + 1 first-link places, L link numbers by leaving motif.":
 -- each area starts where the one before it ends
 abbrev pub initialAt : ℕ
 initialAt = headerWords
 
+abbrev pub initialIn : List ℕ → ℕ → ℕ
+initialIn ws v = getD ws (initialAt + v) 0
+
 abbrev pub edgesAt : ℕ → ℕ
 edgesAt m = initialAt + m
 
 -- edge e, of three words
+abbrev pub edgeSize : ℕ
+edgeSize = 3
+
 abbrev pub edgeAt : ℕ → ℕ → ℕ
-edgeAt m e = edgesAt m + 3 * e
+edgeAt m e = edgesAt m + edgeSize * e
+
+abbrev pub fromIn : ℕ → List ℕ → ℕ → ℕ
+fromIn m ws e = getD ws (edgeAt m e) 0
+
+abbrev pub toIn : ℕ → List ℕ → ℕ → ℕ
+toIn m ws e = getD ws (edgeAt m e + 1) 0
+
+abbrev pub edgeCostIn : ℕ → List ℕ → ℕ → ℕ
+edgeCostIn m ws e = getD ws (edgeAt m e + 2) 0
 
 abbrev pub placesAt : ℕ → ℕ → ℕ
 placesAt m l = edgeAt m l
 
+abbrev pub placeIn : ℕ → ℕ → List ℕ → ℕ → ℕ
+placeIn m l ws v = getD ws (placesAt m l + v) 0
+
 abbrev pub numbersAt : ℕ → ℕ → ℕ
 numbersAt m l = placesAt m l + (m + 1)
+
+abbrev pub numberIn : ℕ → ℕ → List ℕ → ℕ → ℕ
+numberIn m l ws p = getD ws (numbersAt m l + p) 0
 
 abbrev pub slotsAt : ℕ → ℕ → ℕ
 slotsAt m l = numbersAt m l + l
 
 -- a tree's words, counted from its own start: "start motif, nodes used, queue length; 1 + L nodes of motif, cost, parent, link;
 -- 1 + L queue words; M closed words"
+abbrev pub startAt : ℕ
+startAt = 0
+
+abbrev pub usedAt : ℕ
+usedAt = 1
+
+abbrev pub queuedAt : ℕ
+queuedAt = 2
+
+abbrev pub startIn : List ℕ → ℕ
+startIn t = getD t startAt 0
+
+abbrev pub usedIn : List ℕ → ℕ
+usedIn t = getD t usedAt 0
+
+abbrev pub queuedIn : List ℕ → ℕ
+queuedIn t = getD t queuedAt 0
+
 abbrev pub nodesAt : ℕ
 nodesAt = 3
 
 -- node k, of four words
+abbrev pub nodeSize : ℕ
+nodeSize = 4
+
 abbrev pub nodeAt : ℕ → ℕ
-nodeAt k = nodesAt + 4 * k
+nodeAt k = nodesAt + nodeSize * k
+
+-- what node k of the tree t says; its vertex is read of the cache's words ws too
+abbrev pub vertexIn : List ℕ → List ℕ → ℕ → ℕ
+vertexIn ws t k = getD t (nodeAt k) 0
+
+abbrev pub costIn : List ℕ → ℕ → ℕ
+costIn t k = getD t (nodeAt k + 1) 0
+
+abbrev pub parentIn : List ℕ → ℕ → ℕ
+parentIn t k = getD t (nodeAt k + 2) 0
+
+abbrev pub edgeIn : List ℕ → ℕ → ℕ
+edgeIn t k = getD t (nodeAt k + 3) 0
 
 abbrev pub queueAt : ℕ → ℕ
 queueAt l = nodeAt (1 + l)
 
+abbrev pub queueWordIn : ℕ → List ℕ → ℕ → ℕ
+queueWordIn l t i = getD t (queueAt l + i) 0
+
 abbrev pub closedWordsAt : ℕ → ℕ
 closedWordsAt l = queueAt l + (1 + l)
+
+abbrev pub closedWordIn : ℕ → List ℕ → ℕ → ℕ
+closedWordIn l t v = getD t (closedWordsAt l + v) 0
 
 abbrev pub treeWords : ℕ → ℕ → ℕ
 treeWords m l = closedWordsAt l + m
@@ -66,10 +157,20 @@ pub record Sized (m l : ℕ) : Type 0 where
   pub vertices : m ≤ vertexLimit
   pub edges : l ≤ edgeLimit
 
+-- n words hold node k
+abbrev pub NodeFits : ℕ → ℕ → Type 0
+NodeFits n k = nodeAt k + nodeSize ≤ n
+
 -- n words hold the word k of node i
 pub record NodeWord (n i k : ℕ) : Type 0 where
   pub word : k < 4
   pub within : nodeAt i + k < n
+
+-- n words hold edge e
+pub record EdgeFits (n m e : ℕ) : Type 0 where
+  pub vertices : m ≤ vertexLimit
+  pub edge : e < edgeLimit
+  pub within : edgeAt m e + edgeSize ≤ n
 
 -- n words hold the word k of edge e
 pub record EdgeWord (n m e k : ℕ) : Type 0 where

@@ -4,15 +4,16 @@ use mathlib.Core.Bool.{Bool, true, false, not, _&&_, _||_}
 use mathlib.Core.List.{List, [], _∷_}
 use Prim.Native.Nat.{ℕ, _+_, _-_, _/_}
 use lib.Dec.{eqb, leb, ltb}
-use lib.ListN.{length, getD, drop}
+use lib.ListN.{length, getD}
 use Rattle.model.specs.Limits.{vertexLimit, edgeLimit, costLimit, slotLimit}
 use Rattle.model.specs.Lists.{allb, allBelow, upto}
 use Rattle.model.specs.Graph.{Graph, Domain, from, to, cost, absent, vertexCount, edgeCount, edgeNumbers}
 use Rattle.model.specs.Tree.{Node, precedes}
 use Rattle.model.specs.Sound.{soundb, starts, distinctb}
-use Rattle.layout.specs.Layout.{headerWords, placesAt, numbersAt, nodesAt, nodeAt, queueAt, closedWordsAt, treeWords, slotAt, needed, part}
+use Rattle.layout.specs.Layout.{headerWords, placesAt, numbersAt, nodeAt, queueAt, closedWordsAt, slotAt, needed, part, directionIn, edgesIn, queuedIn, slotsIn, treesIn, usedIn, verticesIn}
 use Rattle.layout.specs.Words.{firstPlaces}
 use Rattle.layout.specs.Read.{nodesIn, treeIn, readCache}
+use Rattle.layout.specs.Slots.{slotWords}
 
 -- two lists are one
 unfoldable pub sameb : List ℕ → List ℕ → Bool
@@ -32,13 +33,13 @@ zerosb (x ∷ xs) = eqb x 0 && zerosb xs
 abbrev pub headerTests : List ℕ → List Bool
 headerTests ws =
     leb headerWords (length ws)
-    ∷ leb (getD ws 0 0) 1
-    ∷ leb (getD ws 1 0) vertexLimit
-    ∷ leb (getD ws 2 0) edgeLimit
-    ∷ leb 1 (getD ws 3 0)
-    ∷ leb (getD ws 3 0) slotLimit
-    ∷ leb (getD ws 4 0) (getD ws 3 0)
-    ∷ leb (needed (getD ws 1 0) (getD ws 2 0) (getD ws 3 0)) (length ws)
+    ∷ leb (directionIn ws) 1
+    ∷ leb (verticesIn ws) vertexLimit
+    ∷ leb (edgesIn ws) edgeLimit
+    ∷ leb 1 (slotsIn ws)
+    ∷ leb (slotsIn ws) slotLimit
+    ∷ leb (treesIn ws) (slotsIn ws)
+    ∷ leb (needed (verticesIn ws) (edgesIn ws) (slotsIn ws)) (length ws)
     ∷ []
 
 -- an initial cost: "4294967295 for `-`", or at most 999,999
@@ -73,7 +74,7 @@ graphTests d ws =
 
 -- the queue words in use
 abbrev pub queueIn : ℕ → List ℕ → List ℕ
-queueIn l t = part (queueAt l) (getD t 2 0) t
+queueIn l t = part (queueAt l) (queuedIn t) t
 
 -- "in heap order by cost, then number": no word goes before the word at place (i - 1) / 2
 abbrev pub heapb : List Node → List ℕ → Bool
@@ -83,24 +84,24 @@ heapb ns q = upto (λ i. eqb i 0 || not (precedes ns (getD q i 0) (getD q ((i - 
 abbrev pub queueTests : ℕ → List ℕ → ℕ → List Bool
 queueTests l t n =
     let q = part (queueAt l) n t in
-    allBelow (getD t 1 0) q
+    allBelow (usedIn t) q
     ∷ distinctb q
-    ∷ heapb (nodesIn (getD t 1 0) (drop nodesAt t)) q
+    ∷ heapb (nodesIn (usedIn t) t) q
     ∷ []
 
 -- unused nodes, unused queue words
 abbrev pub spareTests : ℕ → List ℕ → List Bool
 spareTests l t =
-    zerosb (part (nodeAt (getD t 1 0)) (queueAt l - nodeAt (getD t 1 0)) t)
-    ∷ zerosb (part (queueAt l + getD t 2 0) (closedWordsAt l - (queueAt l + getD t 2 0)) t)
+    zerosb (part (nodeAt (usedIn t)) (queueAt l - nodeAt (usedIn t)) t)
+    ∷ zerosb (part (queueAt l + queuedIn t) (closedWordsAt l - (queueAt l + queuedIn t)) t)
     ∷ []
 
 -- nodes used and queue length are within their areas
 abbrev pub formTests : ℕ → List ℕ → List Bool
 formTests l t =
-    leb (getD t 1 0) (1 + l)
-    ∷ leb (getD t 2 0) (1 + l)
-    ∷ allb (queueTests l t (getD t 2 0))
+    leb (usedIn t) (1 + l)
+    ∷ leb (queuedIn t) (1 + l)
+    ∷ allb (queueTests l t (queuedIn t))
     ∷ allb (spareTests l t)
     ∷ []
 
@@ -115,20 +116,16 @@ treeWordsb d m l t = formedb l t && soundb d (treeIn m l t)
 
 -- ---- the whole
 
--- the words of slot i
-abbrev pub slotWords : ℕ → ℕ → ℕ → List ℕ → List ℕ
-slotWords m l i ws = part (slotAt m l i) (treeWords m l) ws
-
 -- "start motifs differ, and in each tree: .."; the words of slots not in use are 0
 abbrev pub treesTests : List ℕ → List Bool
 treesTests ws =
     let c = readCache ws in
-    let m = getD ws 1 0 in
-    let l = getD ws 2 0 in
-    let used = getD ws 4 0 in
+    let m = verticesIn ws in
+    let l = edgesIn ws in
+    let used = treesIn ws in
     distinctb (starts (c .trees))
     ∷ upto (λ i. treeWordsb (c .domain) m l (slotWords m l i ws)) used
-    ∷ zerosb (part (slotAt m l used) (needed m l (getD ws 3 0) - slotAt m l used) ws)
+    ∷ zerosb (part (slotAt m l used) (needed m l (slotsIn ws) - slotAt m l used) ws)
     ∷ []
 
 unfoldable pub soundWordsb : List ℕ → Bool

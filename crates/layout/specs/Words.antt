@@ -1,10 +1,11 @@
--- The words of a cache that was just opened.
+-- The words of a cache that was just opened, of a tree's header and of a node.
 -- Assumes nothing.
 use mathlib.Core.List.{List, [], _∷_, _++_, map}
 use Prim.Native.Nat.{ℕ, _+_, _*_}
 use lib.ListN.{length, replicate}
 use Rattle.model.specs.Lists.{numbers, joined}
 use Rattle.model.specs.Graph.{Edge, Graph, Direction, forward, backward, Domain, domain, vertexCount, edgeCount, choices, edgeNumbers}
+use Rattle.model.specs.Tree.{Node}
 use Rattle.layout.specs.Layout.{treeWords}
 
 -- "direction 0 forward or 1 backward"
@@ -41,3 +42,11 @@ unfolding graphWords domain
 openedWords dir g t =
     headerOf dir (vertexCount g) (edgeCount g) t
     ++ (graphWords (domain dir g) ++ replicate (t * treeWords (vertexCount g) (edgeCount g)) 0)
+
+-- "start motif, nodes used, queue length"
+abbrev pub treeHeader : ℕ → ℕ → ℕ → List ℕ
+treeHeader start used queued = start ∷ used ∷ queued ∷ []
+
+-- "motif, cost, parent, link"
+abbrev pub nodeWords : Node → List ℕ
+nodeWords x = x .vertex ∷ x .cost ∷ x .parent ∷ x .edge ∷ []

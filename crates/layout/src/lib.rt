@@ -1,10 +1,15 @@
 // Where each word of a cache stands. The places are defined once, in specs/Layout.antt; here is one function for each
 // area's start and one for each kind of word.
+pub mod lists;
+pub mod slots;
+
 ghost use mathlib.Core.Path.{_≡_};
 ghost use Prim.Native.Nat.{_+_, _*_, _^_, _<_, _≤_};
 ghost use lib.ListN.{length, getD};
 ghost use Rattle.model.specs.Limits.{vertexLimit, edgeLimit, slotLimit};
-ghost use Rattle.layout.specs.Layout.{headerWords, initialAt, edgesAt, edgeAt, placesAt, numbersAt, slotsAt, nodeAt, queueAt, closedWordsAt, treeWords, slotAt, needed, Sized, EdgeWord, NodeWord};
+ghost use Rattle.model.specs.Graph.{rootCost};
+ghost use Rattle.layout.specs.Read.{directionOf};
+ghost use Rattle.layout.specs.Layout.{directionIn, initialIn, placeIn, vertexIn, costIn, parentIn, edgeIn, fromIn, toIn, edgeCostIn, NodeFits, EdgeFits, headerWords, initialAt, edgesAt, edgeAt, placesAt, numbersAt, slotsAt, nodeAt, queueAt, closedWordsAt, treeWords, slotAt, needed, Sized, EdgeWord, NodeWord};
 
 // No initial cost; also the parent and the edge of a root.
 pub const ABSENT: u32 = 4294967295;
@@ -137,9 +142,20 @@ pub fn header(words: &[u32], place: usize) -> usize
 // The initial cost of a vertex, 4294967295 for none.
 pub fn initial_cost(words: &[u32], vertex: usize) -> u32
     requires { ⌜ initialAt + vertex < length (now words) ⌝ }
-    ensures { λ r. ⌜ r ≡ getD (now (words .entry)) (initialAt + vertex) 0 ⌝ }
+    ensures { λ r. ⌜ r ≡ initialIn (now (words .entry)) vertex ⌝ }
 {
     words[INITIAL_AT + vertex]
+}
+
+// The cost of a root: backward, initial costs are not looked at.
+pub fn root_cost(words: &[u32], vertex: usize) -> u32
+    requires { ⌜ initialAt + vertex < length (now words) ⌝ }
+    ensures { λ r. ⌜ r ≡ rootCost (directionOf (directionIn (now (words .entry)))) (initialIn (now (words .entry)) vertex) ⌝ }
+{
+    if words[DIRECTION] == 0 {
+        return initial_cost(words, vertex);
+    }
+    0
 }
 
 // A word of an edge, by its place among the edge's words.
@@ -150,6 +166,28 @@ pub fn edge_word(words: &[u32], vertices: usize, edge: usize, place: usize) -> u
     words[edge_at(vertices, edge) + place]
 }
 
+// What an edge says.
+pub fn edge_from(words: &[u32], vertices: usize, edge: usize) -> u32
+    requires { ⌜ EdgeFits (length (now words)) vertices edge ⌝ }
+    ensures { λ r. ⌜ r ≡ fromIn vertices (now (words .entry)) edge ⌝ }
+{
+    edge_word(words, vertices, edge, FROM)
+}
+
+pub fn edge_to(words: &[u32], vertices: usize, edge: usize) -> u32
+    requires { ⌜ EdgeFits (length (now words)) vertices edge ⌝ }
+    ensures { λ r. ⌜ r ≡ toIn vertices (now (words .entry)) edge ⌝ }
+{
+    edge_word(words, vertices, edge, TO)
+}
+
+pub fn edge_cost(words: &[u32], vertices: usize, edge: usize) -> u32
+    requires { ⌜ EdgeFits (length (now words)) vertices edge ⌝ }
+    ensures { λ r. ⌜ r ≡ edgeCostIn vertices (now (words .entry)) edge ⌝ }
+{
+    edge_word(words, vertices, edge, COST)
+}
+
 // A word of a node, by its place among the node's words; `tree` has a tree's own words.
 pub fn node_word(tree: &[u32], node: usize, place: usize) -> u32
     requires { ⌜ NodeWord (length (now tree)) node place ⌝ }
@@ -158,10 +196,39 @@ pub fn node_word(tree: &[u32], node: usize, place: usize) -> u32
     tree[node_at(node) + place]
 }
 
+// What a node says. Its vertex is read of the cache's words and the tree's, the rest of the tree's own words.
+pub fn node_vertex(words: &[u32], tree: &[u32], node: usize) -> u32
+    requires { ⌜ NodeFits (length (now tree)) node ⌝ }
+    ensures { λ r. ⌜ r ≡ vertexIn (now (words .entry)) (now (tree .entry)) node ⌝ }
+{
+    node_word(tree, node, NODE_VERTEX)
+}
+
+pub fn node_cost(tree: &[u32], node: usize) -> u32
+    requires { ⌜ NodeFits (length (now tree)) node ⌝ }
+    ensures { λ r. ⌜ r ≡ costIn (now (tree .entry)) node ⌝ }
+{
+    node_word(tree, node, NODE_COST)
+}
+
+pub fn node_parent(tree: &[u32], node: usize) -> u32
+    requires { ⌜ NodeFits (length (now tree)) node ⌝ }
+    ensures { λ r. ⌜ r ≡ parentIn (now (tree .entry)) node ⌝ }
+{
+    node_word(tree, node, NODE_PARENT)
+}
+
+pub fn node_edge(tree: &[u32], node: usize) -> u32
+    requires { ⌜ NodeFits (length (now tree)) node ⌝ }
+    ensures { λ r. ⌜ r ≡ edgeIn (now (tree .entry)) node ⌝ }
+{
+    node_word(tree, node, NODE_EDGE)
+}
+
 // Where the edges of a vertex begin among the edge numbers; those of the last vertex end at the place past it.
 pub fn first_place(words: &[u32], vertices: usize, edges: usize, vertex: usize) -> usize
     requires { ⌜ Sized vertices edges × (placesAt vertices edges + vertex < length (now words)) ⌝ }
-    ensures { λ r. ⌜ r ≡ getD (now (words .entry)) (placesAt vertices edges + vertex) 0 ⌝ }
+    ensures { λ r. ⌜ r ≡ placeIn vertices edges (now (words .entry)) vertex ⌝ }
 {
     wide(words[places_at(vertices, edges) + vertex])
 }

@@ -3,8 +3,15 @@
 use layout::wide;
 use model::OpenAnswer;
 use model::number;
+use put_text::put_edge;
+use put_text::put_vertex;
 ghost use Prim.Native.Nat.{_<_, _≤_};
 ghost use lib.ListN.{length};
+
+// The longest line of a vertex, and of an edge. A text has room for all of its lines.
+const VERTEX: usize = 24;
+
+const EDGE: usize = 35;
 
 // What a text is made of.
 struct Sample {
@@ -17,7 +24,7 @@ struct Sample {
 fn main() {
     let mut text = [0u8; 60000];
     let most = made(1024, 2048, 999999, 999999);
-    let n = put_text(&mut text, most);
+    let n = put_sample(&mut text, most);
     try_open(&text[0..n], most, 0, 1, 21518);
     try_open(&text[0..n], most, 1, 1, 21518);
     try_open(&text[0..n], most, 0, 1, 21517);
@@ -61,7 +68,7 @@ fn try_sample(s: Sample, direction: u32, slots: usize, lent: usize)
     requires { ⌜ lent ≤ 22000 ⌝ }
 {
     let mut text = [0u8; 60000];
-    let n = put_text(&mut text, s);
+    let n = put_sample(&mut text, s);
     try_open(&text[0..n], s, direction, slots, lent);
 }
 
@@ -138,7 +145,7 @@ fn sum(words: &[u32]) -> usize
 
 // ---- the text
 
-fn put_text(text: &mut [u8], s: Sample) -> usize
+fn put_sample(text: &mut [u8], s: Sample) -> usize
     ensures { λ r. ⌜ r ≤ length (now (text .exit)) ⌝ }
 {
     let at = put_vertices(text, s);
@@ -149,24 +156,17 @@ fn put_vertices(text: &mut [u8], s: Sample) -> usize
     ensures { λ r. ⌜ r ≤ length (now (text .entry)) ⌝ }
 {
     let count = wide(s.vertices);
-    let initial = wide(s.initial);
+    let initial = s.initial;
     let mut at = 0;
     let mut v = 0;
     while v < count {
+        if text.len() < at + VERTEX {
+            return at;
+        }
         at = put_vertex(text, at, v, initial);
         v += 1;
     }
     at
-}
-
-fn put_vertex(text: &mut [u8], start: usize, v: usize, initial: usize) -> usize
-    requires { ⌜ start ≤ length (now text) ⌝ }
-    ensures { λ r. ⌜ r ≤ length (now (text .entry)) ⌝ }
-{
-    let mut at = put(text, start, b'M');
-    at = put_field(text, at, v);
-    at = put_field(text, at, initial);
-    put(text, at, b'\n')
 }
 
 // Edge e leads from vertex 7e to vertex 3e, counted round.
@@ -183,70 +183,13 @@ fn put_edges(text: &mut [u8], start: usize, s: Sample) -> usize
     let mut at = start;
     let mut e = 0;
     while e < count {
-        at = put_edge(text, at, 7 * e % vertices, 3 * e % vertices, cost);
+        if text.len() < at + EDGE {
+            return at;
+        }
+        let from = 7 * e % vertices;
+        let to = 3 * e % vertices;
+        at = put_edge(text, at, from, to, cost);
         e += 1;
-    }
-    at
-}
-
-fn put_edge(text: &mut [u8], start: usize, from: usize, to: usize, cost: usize) -> usize
-    requires { ⌜ start ≤ length (now text) ⌝ }
-    ensures { λ r. ⌜ r ≤ length (now (text .entry)) ⌝ }
-{
-    let mut at = put(text, start, b'L');
-    at = put_field(text, at, from);
-    at = put_field(text, at, to);
-    at = put_field(text, at, cost);
-    put(text, at, b'\n')
-}
-
-fn put_field(text: &mut [u8], at: usize, n: usize) -> usize
-    requires { ⌜ at ≤ length (now text) ⌝ }
-    ensures { λ r. ⌜ r ≤ length (now (text .entry)) ⌝ }
-{
-    let behind = put(text, at, b',');
-    put_number(text, behind, n)
-}
-
-// At most seven digits.
-fn put_number(text: &mut [u8], start: usize, n: usize) -> usize
-    requires { ⌜ start ≤ length (now text) ⌝ }
-    ensures { λ r. ⌜ r ≤ length (now (text .entry)) ⌝ }
-{
-    let mut at = start;
-    let mut unit: usize = 1000000;
-    while 0 < unit {
-        at = put_digit(text, at, n, unit);
-        unit = unit / 10;
-    }
-    at
-}
-
-// No zero in front of a number.
-fn put_digit(text: &mut [u8], at: usize, n: usize, unit: usize) -> usize
-    requires { ⌜ (at ≤ length (now text)) × (0 < unit) ⌝ }
-    ensures { λ r. ⌜ r ≤ length (now (text .entry)) ⌝ }
-{
-    if unit <= n {
-        return put(text, at, digit(n / unit));
-    }
-    if unit == 1 {
-        return put(text, at, b'0');
-    }
-    at
-}
-
-fn digit(n: usize) -> u8 {
-    (48 + n % 10) as u8
-}
-
-fn put(text: &mut [u8], at: usize, b: u8) -> usize
-    requires { ⌜ at ≤ length (now text) ⌝ }
-    ensures { λ r. ⌜ r ≤ length (now (text .entry)) ⌝ }
-{
-    if at < text.len() {
-        text[at] = b;
-        return at + 1;
     }
     at
 }

@@ -14,19 +14,20 @@ use Rattle.model.specs.declared.Solution.{Solution}
 use Rattle.model.specs.declared.Solution.the-variants.{Unsolved, At}
 use Rattle.model.specs.declared.TreeMemory.{TreeMemory}
 use Rattle.model.specs.Lists.{allb}
-use Rattle.model.specs.Tree.{evaluation}
+use Rattle.model.specs.Worth.{solutionCost}
 use Rattle.model.specs.Sound.{tree}
 use Rattle.model.specs.Valid.{knownWithin, closesGoal, solutionCloses, entryTests, sameCost, isHeld}
 use Rattle.layout.specs.Read.{readCache}
 use Rattle.sound.proofs.Facts.{trees-length}
 use Rattle.sound.proofs.Tests.{all-fails, read-last}
-use Rattle.grow.specs.Grow.{InUse}
+use Rattle.sound.specs.Facts.{InUse}
 use Rattle.memory.specs.Memory.{HasNode, bestNodeTests}
 use Rattle.memory.proofs.Fits.{closes-node}
+use Rattle.layout.specs.Layout.{treesIn}
 
 -- ---- one entry; u: the trees in use, k: whether its count is within
 
-module _ (ws gs : List ℕ) (e : TreeMemory) {u : ℕ} (z : u ≡ getD ws 4 0) where
+module _ (ws gs : List ℕ) (e : TreeMemory) {u : ℕ} (z : u ≡ treesIn ws) where
   abbrev tests : List Bool
   tests = entryTests (readCache ws .domain) (readCache ws .trees) gs e
 
@@ -64,7 +65,7 @@ module _ (ws gs : List ℕ) (e : TreeMemory) (n : ℕ) (least : CostBound) (x : 
   best-has-node u f = record { used = u; node = closes-node (u .sound) gs (omega (arith, u .slot, trees-length ws)) n (sym closes ∙ not-false a f) }
 
   -- g: whether it costs the least
-  module _ (closed : not a ≡ false) {k : ℕ} {g : Bool} (cost : k ≡ evaluation (tree (readCache ws .trees) (e .tree) .nodes) n) (same : g ≡ sameCost (Bound k) least) where
+  module _ (closed : not a ≡ false) {k : ℕ} {g : Bool} (cost : k ≡ solutionCost (readCache ws .domain) (tree (readCache ws .trees) (e .tree) .nodes) n) (same : g ≡ sameCost (Bound k) least) where
     costs : g ≡ getD three 1 true
     costs = same ∙ ap (λ (c : ℕ). sameCost (Bound c) least) cost
 

@@ -7,7 +7,7 @@ use Prim.Native.Nat.{ℕ, _<_, _≤_}
 use native.Mathlib.Omega.{arith}
 use borrow.Author.Tests.{ltb-true, leb-true, eqb-true}
 use lib.Dec.{leb}
-use lib.ListN.{length, getD}
+use lib.ListN.{length}
 use lib.Seq.{length-take-le, getD-take}
 use Rattle.model.specs.declared.CostBound.the-variants.{Bound}
 use Rattle.model.specs.declared.KnownLen.{KnownLen}
@@ -19,7 +19,7 @@ use Rattle.model.specs.declared.BestSolution.the-variants.{Best}
 use Rattle.model.specs.declared.TreeMemory.{TreeMemory}
 use Rattle.model.specs.declared.Search.{Search}
 use Rattle.model.specs.Lists.{mem, allb, allBelow}
-use Rattle.model.specs.Tree.{node, evaluation}
+use Rattle.model.specs.Worth.{node, solutionCost}
 use Rattle.model.specs.Sound.{tree}
 use Rattle.model.specs.Search.{entry, entries, goals}
 use Rattle.model.specs.Valid.{listTests, knownWithin, closesGoal, solutionCloses, entryTests, everyb, bestTests, bestCloses, heldCost, validTests, valid}
@@ -27,10 +27,10 @@ use Rattle.model.proofs.Bools.{and-true, all-true}
 use Rattle.model.proofs.Valid.{every-at, entries-length, entries-at}
 use Rattle.layout.specs.Read.{readCache}
 use Rattle.tree.proofs.Parts.{below-in}
-use Rattle.sound.specs.Facts.{SoundWords}
+use Rattle.sound.specs.Facts.{SoundWords, InUse}
 use Rattle.sound.proofs.Facts.{trees-length, sound-cache, vertices-read}
-use Rattle.grow.specs.Grow.{InUse}
 use Rattle.memory.specs.Memory.{HasNode, Listed, EntryHolds, CanJudge, FitsWords}
+use Rattle.layout.specs.Layout.{verticesIn}
 
 -- ---- an entry's tree
 
@@ -38,7 +38,7 @@ pub in-use : {ws : List ℕ} {i : ℕ} → SoundWords ws → i < length (readCac
 in-use {ws} ok h = record { sound = ok; slot = omega (arith, trees-length ws) }
 
 -- a remembered count
-pub known-read : {ws : List ℕ} {k : KnownLen} {n m : ℕ} → SoundWords ws → k ≡ Len n → m ≡ getD ws 1 0 → leb n m ≡ knownWithin (readCache ws .domain) k
+pub known-read : {ws : List ℕ} {k : KnownLen} {n m : ℕ} → SoundWords ws → k ≡ Len n → m ≡ verticesIn ws → leb n m ≡ knownWithin (readCache ws .domain) k
 known-read {ws} {k} {n} ok e z = ap (leb n) (z ∙ sym (vertices-read ok)) ∙ sym (ap (knownWithin (readCache ws .domain)) e)
 
 -- the solution held
@@ -46,7 +46,7 @@ module _ {ws : List ℕ} {e : TreeMemory} {n : ℕ} (c : CanJudge ws e) (z : e .
   pub held-node : HasNode ws (e .tree) n
   held-node = record { used = in-use (c .0) (c .1 .slot); node = c .1 .node n z }
 
-  pub held-costs : {k : ℕ} → k ≡ evaluation (tree (readCache ws .trees) (e .tree) .nodes) n
+  pub held-costs : {k : ℕ} → k ≡ solutionCost (readCache ws .domain) (tree (readCache ws .trees) (e .tree) .nodes) n
       → Bound k ≡ heldCost (readCache ws .domain) (tree (readCache ws .trees) (e .tree)) (e .solution)
   held-costs h = ap Bound h ∙ sym (ap (heldCost (readCache ws .domain) (tree (readCache ws .trees) (e .tree))) z)
 
@@ -98,12 +98,12 @@ module _ (ws : List ℕ) (s : Search) (ok : SoundWords ws) (l : Listed s) where
         holds-at ok (goals s) (entry s i) (subst (λ (e : TreeMemory). passes e ≡ true) (entries-at s fits i h)
         (every-at passes (entries s) each i (omega (arith, entries-length s fits))))
 
-    fits-at : allBelow (getD ws 1 0) (goals s) ≡ true → bestCloses (readCache ws .trees) s (s .«best_solution») ≡ true → FitsWords ws s
+    fits-at : allBelow (verticesIn ws) (goals s) ≡ true → bestCloses (readCache ws .trees) s (s .«best_solution») ≡ true → FitsWords ws s
     fits-at below best = record {
       listed = l;
       goals = λ i h.
           let long : length (goals s) ≡ s .«goal_count» = length-take-le (s .«goal_count») (s .«goal_keys») (omega (arith, l .keys, l .goals)) in
-          subst (λ (v : ℕ). v < getD ws 1 0) (getD-take (s .«goal_count») (s .«goal_keys») i 0 h) (below-in (getD ws 1 0) (goals s) below i (omega (arith, long)));
+          subst (λ (v : ℕ). v < verticesIn ws) (getD-take (s .«goal_count») (s .«goal_keys») i 0 h) (below-in (verticesIn ws) (goals s) below i (omega (arith, long)));
       held = held-at;
       best = λ i n z.
           let q = all-true (bestTests (readCache ws .trees) s i n) (subst (λ (x : BestSolution). bestCloses (readCache ws .trees) s x ≡ true) z best) in

@@ -13,7 +13,7 @@ use lib.ListN.{length, getD, List·getD-eq-default}
 use Rattle.model.specs.Lists.{mem}
 use Rattle.model.specs.Tree.{Node, node, closedAt}
 use Rattle.model.specs.Valid.{closesGoal}
-use Rattle.layout.specs.Layout.{nodeAt, closedWordsAt}
+use Rattle.layout.specs.Layout.{closedWordsAt, usedIn, vertexIn}
 use Rattle.layout.proofs.Trees.{tree-node, tree-closed-length}
 use Rattle.tree.specs.declared.partial_keyed_closed_set.ClosedStatus.{ClosedStatus}
 use Rattle.tree.specs.declared.partial_keyed_closed_set.ClosedStatus.the-variants.{Open, Closed}
@@ -21,7 +21,7 @@ use Rattle.tree.specs.Tree.{treeOf, Formed, HasVertex, statusOf}
 use Rattle.tree.proofs.Closed.{open-word, closer-word, closer-used}
 use Rattle.memory.specs.Memory.{HasVertices}
 
-module _ {l : ℕ} {t : List ℕ} (n : ℕ) (ok : HasVertices l t) where
+module _ {l : ℕ} {ws t : List ℕ} (n : ℕ) (ok : HasVertices l ws t) where
   abbrev closed : List ℕ
   closed = treeOf l t .closed
 
@@ -29,7 +29,7 @@ module _ {l : ℕ} {t : List ℕ} (n : ℕ) (ok : HasVertices l t) where
   it = node (treeOf l t .nodes) n
 
   -- a closed word names a node in use
-  unused : getD t 1 0 ≤ n → closedAt closed (it .vertex) ≢ suc n
+  unused : usedIn t ≤ n → closedAt closed (it .vertex) ≢ suc n
   unused h e = elim (decLt (closedWordsAt l + it .vertex) (length t)) [
     | yes b ↦ omega (arith, closer-used (it .vertex) (ok .formed) b e)
     | no b ↦
@@ -37,15 +37,15 @@ module _ {l : ℕ} {t : List ℕ} (n : ℕ) (ok : HasVertices l t) where
         omega (arith, e, List·getD-eq-default closed 0 {n = it .vertex} (omega (arith, all)))
   ]
 
-  pub goal-unused : (gs : List ℕ) → getD t 1 0 ≤ n → false ≡ closesGoal gs (treeOf l t) n
+  pub goal-unused : (gs : List ℕ) → usedIn t ≤ n → false ≡ closesGoal gs (treeOf l t) n
   unfolding closesGoal
   goal-unused gs h =
       sym (ap (λ (b : Bool). mem (it .vertex) gs && b) (ne-eqb (closedAt closed (it .vertex)) (suc n) (unused h)) ∙ and-false (mem (it .vertex) gs))
 
   -- v: the vertex read off its word
-  module _ (h : n < getD t 1 0) {i v : ℕ} (at : i ≡ n) (read : v ≡ getD t (nodeAt i + 0) 0) where
-    word-is : v ≡ getD t (nodeAt n) 0
-    word-is = let place : nodeAt i + 0 ≡ nodeAt n = omega arith in read ∙ ap (λ (p : ℕ). getD t p 0) place
+  module _ (h : n < usedIn t) {i v : ℕ} (at : i ≡ n) (read : v ≡ vertexIn ws t i) where
+    word-is : v ≡ vertexIn ws t n
+    word-is = read ∙ ap (vertexIn ws t) at
 
     pub goal-vertex : {w : ℕ} → w ≡ v → Formed l t × HasVertex l t w
     goal-vertex wide = (ok .formed, omega (arith, ok .vertices n h, word-is, wide))

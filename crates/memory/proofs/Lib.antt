@@ -1,7 +1,6 @@
 -- Laws that belong to no one function.
 pub mod Slots
 pub mod Arrays
-pub mod Lists
 pub mod Costs
 pub mod Fits
 pub mod Goals

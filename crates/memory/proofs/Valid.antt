@@ -22,14 +22,14 @@ use Rattle.model.specs.Valid.{listTests, entryTests, everyb, bestTests, bestClo
 use Rattle.model.proofs.Bools.{true-and, true-given}
 use Rattle.model.proofs.Valid.{entries-length, entries-at}
 use Rattle.layout.specs.Read.{readCache}
-use Rattle.sound.specs.Facts.{SoundWords}
+use Rattle.sound.specs.Facts.{SoundWords, InUse}
 use Rattle.sound.proofs.Facts.{vertices-read}
 use Rattle.sound.proofs.Tests.{all-fails}
-use Rattle.grow.specs.Grow.{InUse}
 use Rattle.memory.specs.Memory.{Listed, CanJudge, bestNodeTests}
-use Rattle.memory.proofs.Lists.{list-fails}
 use Rattle.memory.proofs.Fits.{in-use, listed-fits, holds-at, held-at}
 use Rattle.memory.proofs.Costs.{Least, least-none, least-more, least-all}
+use Rattle.layout.specs.Layout.{verticesIn}
+use Rattle.layout.proofs.Members.{list-fails}
 
 -- the goals as they are lent
 abbrev goalsLent : Search → List ℕ
@@ -72,7 +72,7 @@ module _ (ws : List ℕ) (s : Search) where
       sym (all-fails tests 3 (ap (bestCloses (readCache ws .trees) s) e ∙ all-fails two 0 (le-ltb i (s .«tree_count») h)))
 
   -- r: whether the goals are vertices
-  module _ (ok : SoundWords ws) {n : ℕ} {r : Bool} (z : n ≡ getD ws 1 0) (below : r ≡ allBelow n (goalsLent s)) where
+  module _ (ok : SoundWords ws) {n : ℕ} {r : Bool} (z : n ≡ verticesIn ws) (below : r ≡ allBelow n (goalsLent s)) where
     read : r ≡ allBelow (vertexCount (readCache ws .domain .graph)) (goals s)
     read = below ∙ ap₂ allBelow (z ∙ sym (vertices-read ok)) (goals-lent s)
 

@@ -17,11 +17,10 @@ use Rattle.model.specs.Tree.{Tree}
 use Rattle.model.specs.Sound.{tree}
 use Rattle.model.specs.Search.{entry, solutionCost}
 use Rattle.model.specs.Valid.{closesGoal, sameCost, isHeld}
-use Rattle.layout.specs.Layout.{nodeAt}
+use Rattle.layout.specs.Layout.{usedIn, vertexIn, verticesIn}
 use Rattle.layout.specs.Read.{readCache}
 use Rattle.tree.specs.Tree.{Formed, HasVertex}
-use Rattle.sound.specs.Facts.{SoundWords}
-use Rattle.grow.specs.Grow.{InUse}
+use Rattle.sound.specs.Facts.{SoundWords, InUse}
 
 -- node n is one of the tree in slot i
 pub record HasNode (ws : List ℕ) (i n : ℕ) : Type 0 where
@@ -29,9 +28,9 @@ pub record HasNode (ws : List ℕ) (i n : ℕ) : Type 0 where
   pub node : n < length (tree (readCache ws .trees) i .nodes)
 
 -- the nodes of a tree's words are of its vertices
-pub record HasVertices (l : ℕ) (t : List ℕ) : Type 0 where
+pub record HasVertices (l : ℕ) (ws t : List ℕ) : Type 0 where
   pub formed : Formed l t
-  pub vertices : (i : ℕ) → i < getD t 1 0 → HasVertex l t (getD t (nodeAt i) 0)
+  pub vertices : (i : ℕ) → i < usedIn t → HasVertex l t (vertexIn ws t i)
 
 -- the counts of a record are within its arrays, of 64 each
 pub record Listed (s : Search) : Type 0 where
@@ -57,7 +56,7 @@ pub record Fits (m : ℕ) (ts : List Tree) (s : Search) : Type 0 where
   pub best : (i n : ℕ) → s .«best_solution» ≡ Best i n → (i < s .«tree_count») × (n < length (tree ts (entry s i .tree) .nodes))
 
 abbrev pub FitsWords : List ℕ → Search → Type 0
-FitsWords ws s = Fits (getD ws 1 0) (readCache ws .trees) s
+FitsWords ws s = Fits (verticesIn ws) (readCache ws .trees) s
 
 -- what node n of an entry's tree has to pass to be the best of a record, finished or not: least is what the cheapest of the solutions held costs
 abbrev pub bestNodeTests : Domain → List Tree → List ℕ → TreeMemory → ℕ → CostBound → Bool → List Bool

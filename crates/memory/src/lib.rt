@@ -1,6 +1,7 @@
 // Whether a search record is one of a cache's: refusal 8. The Rust's `Memory` holds its trees and paths, ours names them by number.
-use grow::contains;
-use grow::slot_of;
+use layout::lists::are_vertices;
+use layout::lists::contains;
+use layout::slots::slot_words;
 use layout::wide;
 use model::BestSolution;
 use model::CostBound;
@@ -9,17 +10,17 @@ use model::Search;
 use model::Solution;
 use model::TreeMemory;
 use model::limits::MAX_ENTRIES;
+use tree::partial_keyed_closed_set;
 use tree::partial_keyed_closed_set::ClosedStatus;
 use tree::partial_keyed_closed_set::status;
 ghost use mathlib.Core.Path.{_≡_};
-ghost use Rattle.model.specs.Lists.{allb, allBelow};
-ghost use Rattle.model.specs.Tree.{evaluation};
+ghost use Rattle.model.specs.Lists.{allb};
+ghost use Rattle.model.specs.Worth.{solutionCost};
 ghost use Rattle.model.specs.Sound.{tree};
 ghost use Rattle.model.specs.Valid.{valid, knownWithin, closesGoal, entryTests, heldCost, lesser, sameCost, isHeld};
 ghost use Rattle.layout.specs.Read.{readCache};
 ghost use Rattle.tree.specs.Tree.{treeOf};
-ghost use Rattle.sound.specs.Facts.{SoundWords};
-ghost use Rattle.grow.specs.Grow.{InUse};
+ghost use Rattle.sound.specs.Facts.{SoundWords, InUse};
 ghost use Rattle.memory.specs.Memory.{HasNode, HasVertices, CanJudge, bestNodeTests};
 
 // Whether a record is not strange. All of it is looked at in this one function, for each that it is handed to copies it.
@@ -63,20 +64,6 @@ pub fn is_valid(words: &[u32], search: Search) -> bool
     }
 }
 
-// Whether each number of a list is below the count of vertices.
-pub fn are_vertices(list: &[u32], vertices: usize) -> bool
-    ensures { λ r. ⌜ r ≡ allBelow vertices (now (list .entry)) ⌝ }
-{
-    let mut i = 0;
-    while i < list.len() {
-        if vertices <= wide(list[i]) {
-            return false;
-        }
-        i += 1;
-    }
-    true
-}
-
 fn entry_is_valid(words: &[u32], memory: TreeMemory, goals: &[u32]) -> bool
     requires { ⌜ SoundWords (now words) ⌝ }
     ensures { λ r. ⌜ r ≡ allb (entryTests (readCache (now (words .entry)) .domain) (readCache (now (words .entry)) .trees) (now (goals .entry)) memory) ⌝ }
@@ -110,20 +97,18 @@ fn closes_goal(words: &[u32], slot: usize, goals: &[u32], node: u32) -> bool
     requires { ⌜ InUse (now words) slot ⌝ }
     ensures { λ r. ⌜ r ≡ closesGoal (now (goals .entry)) (tree (readCache (now (words .entry)) .trees) slot) node ⌝ }
 {
-    let s = slot_of(words, slot);
-    let at = s.at;
-    let end = s.end;
-    is_closed_goal(&words[at..end], s.edges, goals, node)
+    let edges = layout::header(words, layout::EDGES);
+    is_closed_goal(words, slot_words(words, slot), edges, goals, node)
 }
 
-fn is_closed_goal(tree: &[u32], edges: usize, goals: &[u32], node: u32) -> bool
-    requires { ⌜ HasVertices edges (now tree) ⌝ }
+fn is_closed_goal(words: &[u32], tree: &[u32], edges: usize, goals: &[u32], node: u32) -> bool
+    requires { ⌜ HasVertices edges (now words) (now tree) ⌝ }
     ensures { λ r. ⌜ r ≡ closesGoal (now (goals .entry)) (treeOf edges (now (tree .entry))) node ⌝ }
 {
     if tree[layout::NODES] <= node {
         return false;
     }
-    let vertex = layout::node_word(tree, wide(node), layout::NODE_VERTEX);
+    let vertex = layout::node_vertex(words, tree, wide(node));
     if !contains(goals, vertex) {
         return false;
     }
@@ -161,14 +146,11 @@ fn best_is_valid(
 }
 
 // What the solution at a node is worth.
-pub fn solution_cost(words: &[u32], slot: usize, node: u32) -> u32
+pub fn solution_cost(words: &[u32], slot: usize, node: u32) -> u64
     requires { ⌜ HasNode (now words) slot node ⌝ }
-    ensures { λ r. ⌜ r ≡ evaluation (tree (readCache (now (words .entry)) .trees) slot .nodes) node ⌝ }
+    ensures { λ r. ⌜ r ≡ solutionCost (readCache (now (words .entry)) .domain) (tree (readCache (now (words .entry)) .trees) slot .nodes) node ⌝ }
 {
-    let s = slot_of(words, slot);
-    let at = s.at;
-    let end = s.end;
-    queue::evaluation(&words[at..end], node)
+    partial_keyed_closed_set::solution_cost(words, slot_words(words, slot), node)
 }
 
 fn held_cost(words: &[u32], memory: TreeMemory) -> CostBound

@@ -5,6 +5,7 @@ use mathlib.Core.Bool.{Bool, true, false}
 use mathlib.Core.List.{List, [], _∷_, _++_}
 use Prim.Native.Nat.{ℕ}
 use Rattle.model.specs.Graph.{forward, absent, domain}
+use Rattle.model.specs.Worth.{evaluationOf, weight}
 use Rattle.model.specs.Tree.{Tree, Node, newTree}
 use Rattle.model.specs.Sound.{soundb, soundTreesb}
 use Rattle.model.proofs.Examples.{little}
@@ -24,7 +25,7 @@ abbrev pub closedTwo : List ℕ
 closedTwo = 1 ∷ 2 ∷ 0 ∷ 0 ∷ []
 
 unfoldable pub isSound : Tree → Bool
-unfolding soundb domain little
+unfolding soundb domain little evaluationOf weight
 isSound t = soundb (domain forward little) t
 
 half-grown : isSound (treeOf (root ∷ threeNodes) (2 ∷ 3 ∷ []) closedTwo) ≡ true

@@ -17,13 +17,14 @@ use Rattle.model.specs.declared.BestSolution.the-variants.{NoBest, Best}
 use Rattle.model.specs.declared.Search.{Search}
 use Rattle.model.specs.Lists.{mem}
 use Rattle.model.specs.Answers.{Reply, answered, Status, waiting, solved}
-use Rattle.model.specs.Graph.{Graph, Domain, Direction, forward, backward, Accepted, Leads, total, pathWords, edgeCount, domain, initialCost}
-use Rattle.model.specs.Tree.{Tree, node, evaluation}
+use Rattle.model.specs.Graph.{Graph, Domain, Direction, forward, backward, Accepted, Leads, pathWords, edgeCount}
+use Rattle.model.specs.Tree.{Tree, node}
 use Rattle.model.specs.Path.{path, words}
 use Rattle.model.specs.Sound.{tree, Sound, SoundTrees}
-use Rattle.model.specs.Search.{entry, goals, boundOf, bound, Walk, walk}
+use Rattle.model.specs.Search.{solutionCost, entry, goals, boundOf, bound, Walk, walk}
 use Rattle.model.specs.Calls.{Cache, stepIf, step, AfterStep, finalStatus, statusAt, shown, shownBy, shownTree, shownTreeBy, isBest, retrace, AfterRetrace}
 use Rattle.model.specs.Demands.{Call, after, Act, ownStep, ownRetrace, other, Event, stepped, retraced, events, Outcome, unreachable, reached, statusOf, notSolved, shownIf, shownOf, Early, Late, Every, steps}
+use Rattle.model.proofs.Worth.{pathWorth}
 use Rattle.model.proofs.Later.{path-later}
 use Rattle.model.proofs.Room.{nodes-le, queue-le}
 use Rattle.model.proofs.Turns.{Holds, Under}
@@ -81,9 +82,9 @@ pub record State (d : Domain) (vs gs mine : List ℕ) (ts : List Tree) (s : Sear
   pub owned : (i : ℕ) → List·Memᴰ i mine → Own d vs ts i
   pub rooted : (v : ℕ) → mem v vs ≡ true → Allowed d v → (j : ℕ) × (j < s .«tree_count») × (tree ts ((entry s j) .tree) .start ≡ v)
 
--- every path from a root to a goal costs at least b
+-- every path from a root to a goal is worth at least b
 abbrev pub Final : Domain → List ℕ → List ℕ → CostBound → Type 0
-Final d vs gs b = (v x : ℕ) (ls : List ℕ) → mem v vs ≡ true → Allowed d v → mem x gs ≡ true → Leads (d .graph) v ls x → Under b (initialCost d v + total (d .graph) ls)
+Final d vs gs b = (v x : ℕ) (ls : List ℕ) → mem v vs ≡ true → Allowed d v → mem x gs ≡ true → Leads (d .graph) v ls x → Under b (pathWorth d v ls x)
 
 abbrev pub outcomeAt : Direction → Tree → Solution → Outcome
 outcomeAt dir t Unsolved = unreachable
@@ -141,12 +142,12 @@ module _ (d : Domain) (acc : Accepted (d .graph)) (vs gs mine : List ℕ) where
     pub holds : (entry s i) .solution ≡ At h
     pub goal : Holds gs (tree ts ((entry s i) .tree)) h
     pub inside : h < length (tree ts ((entry s i) .tree) .nodes)
-    pub bounds : bound d ts s ≡ Bound (evaluation (tree ts ((entry s i) .tree) .nodes) h)
+    pub bounds : bound d ts s ≡ Bound (solutionCost d (tree ts ((entry s i) .tree) .nodes) h)
 
   pub shows-cases : (ts : List Tree) (s : Search) → St ts s → (s .«best_solution» ≡ NoBest) ⊎ Shows ts s
   shows-cases ts s st = go (s .«best_solution») refl (st .ready .best)
     where
-      go : (x : BestSolution) → s .«best_solution» ≡ x → BestsOk (goals s) ts s x → (s .«best_solution» ≡ NoBest) ⊎ Shows ts s
+      go : (x : BestSolution) → s .«best_solution» ≡ x → BestsOk d (goals s) ts s x → (s .«best_solution» ≡ NoBest) ⊎ Shows ts s
       go NoBest z k = inl z
       go (Best i n) z k =
           let e = st .ready .entries i (k .counted) in
@@ -221,7 +222,7 @@ module _ (d : Domain) (acc : Accepted (d .graph)) (vs gs mine : List ℕ) where
     pub walk-final : (walk d ts s) .search .exhausted ≡ true → Final d vs gs (bound d ((walk d ts s) .trees) ((walk d ts s) .search))
     walk-final x v y ls e a m l =
         let r = st .rooted v e a in
-        subst (λ (z : ℕ). Under (bound d ((walk d ts s) .trees) ((walk d ts s) .search)) (initialCost d z + total (d .graph) ls)) (r .2)
+        subst (λ (z : ℕ). Under (bound d ((walk d ts s) .trees) ((walk d ts s) .search)) (pathWorth d z ls y)) (r .2)
         (W .covers x (r .0) (r .1) y ls (rw (st .same) m) (subst (λ (z : ℕ). Leads (d .graph) z ls y) (sym (r .2)) l))
 
     pub walk-less : (walk d ts s) .search .exhausted ≡ false → lefts d ((walk d ts s) .trees) mine < lefts d ts mine

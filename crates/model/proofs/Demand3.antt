@@ -16,13 +16,14 @@ use Rattle.model.specs.declared.Search.{Search}
 use Rattle.model.specs.declared.Solution.the-variants.{At}
 use Rattle.model.specs.Lists.{allBelow}
 use Rattle.model.specs.Answers.{answered}
-use Rattle.model.specs.Graph.{Graph, Domain, Direction, forward, backward, Accepted, totalCost, SearchPath, vertexCount, edgeCount, domain, initialCost}
+use Rattle.model.specs.Graph.{Graph, Domain, Direction, forward, backward, Accepted, Leads, SearchPath, vertexCount, edgeCount, domain, initialCost}
 use Rattle.model.specs.Tree.{Tree, node}
 use Rattle.model.specs.Path.{path, words}
 use Rattle.model.specs.Sound.{tree, Sound, SoundTrees}
 use Rattle.model.specs.Search.{entry, boundOf, bound, rootsOf, goalsOf, newSearch}
 use Rattle.model.specs.Calls.{Cache, SoundCache, opened, plantedFor, initializeBy, initialize, step, retrace}
 use Rattle.model.specs.Demands.{Demand3, Demand3OfCalls, Call, afterAll, Act, ownStep, ownRetrace, other, Event, stepped, retraced, events, Chain, ends, own-step, own-retrace, between, distinct, treesOf, waitLimit, unreachable, Right, Owed}
+use Rattle.model.proofs.Worth.{pathWorth, least-total}
 use Rattle.model.proofs.Least.{path-of}
 use Rattle.model.proofs.Turns.{Under}
 use Rattle.model.proofs.Faults.{MayInitialize, may-initialize, roots-below, no-fault}
@@ -66,7 +67,8 @@ module _ (g : Graph) (acc : Accepted g) (ss gs mine : List ℕ) (ts : List Tree)
           record {
             path = record { goal = (node (t .nodes) (x .h)) .vertex; start = o .root; allowed = o .allowed; sought = x .goal .sought; leads = p .0 };
             totals = sym (p .1);
-            least = λ b ms q. subst (λ (y : CostBound). Under y (totalCost forward g b ms)) (x .bounds) (f b (q .goal) ms (q .start) (q .allowed) (q .sought) (q .leads));
+            least = λ b ms q. least-total d a (node (t .nodes) (x .h)) b (q .goal)
+                (λ ls l. subst (λ (y : CostBound). Under y (pathWorth d b ls (q .goal))) (x .bounds) (f b (q .goal) ls (q .start) (q .allowed) (q .sought) l)) ms (q .leads);
           }
 
   right-backward : State (domain backward g) gs ss mine ts s → Final (domain backward g) gs ss (bound (domain backward g) ts s) → Right backward g ss gs (outcomeOf (domain backward g) ts s)
@@ -82,14 +84,15 @@ module _ (g : Graph) (acc : Accepted g) (ss gs mine : List ℕ) (ts : List Tree)
       allowed : (v : ℕ) → Allowed d v
       allowed v z = omega (arith, z)
 
-      -- a path of the search costs at least the bound
-      under : (b : ℕ) (ls : List ℕ) → SearchPath backward g ss gs b ls → Under (bound d ts s) (totalCost backward g b ls)
-      under b ls p =
-          subst (Under (bound d ts s)) (omega (arith, back-total g ls))
-          (f (p .goal) b (back ls) (p .sought) (allowed (p .goal)) (p .start) (back-leads g ls b (p .goal) (p .leads)))
+      -- a path of the search, turned round, is worth at least the bound, and so is every other between its ends
+      under : (b : ℕ) (ls : List ℕ) (p : SearchPath backward g ss gs b ls) (ms : List ℕ) → Leads (d .graph) (p .goal) ms b → Under (bound d ts s) (pathWorth d (p .goal) ms b)
+      under b ls p ms l = f (p .goal) b ms (p .sought) (allowed (p .goal)) (p .start) l
+
+      turned : (b : ℕ) (ls : List ℕ) (p : SearchPath backward g ss gs b ls) → Leads (d .graph) (p .goal) (back ls) b
+      turned b ls p = back-leads g ls b (p .goal) (p .leads)
 
       none-case : s .«best_solution» ≡ NoBest → Right backward g ss gs unreachable
-      none-case z b ls p = nothing-under d _ z (under b ls p)
+      none-case z b ls p = nothing-under d _ z (under b ls p (back ls) (turned b ls p))
 
       some-case : (x : Shows d a gs ss mine ts s) → Right backward g ss gs (outcomeAt backward (tree ts ((entry s (x .i)) .tree)) (At (x .h)))
       some-case x =
@@ -100,7 +103,9 @@ module _ (g : Graph) (acc : Accepted g) (ss gs mine : List ℕ) (ts : List Tree)
           record {
             path = record { goal = t .start; start = x .goal .sought; allowed = tt; sought = o .root; leads = leads-back g ls (t .start) ((node (t .nodes) (x .h)) .vertex) (p .0) };
             totals = omega (arith, p .1, total-back g ls);
-            least = λ b ms q. subst (λ (y : CostBound). Under y (totalCost backward g b ms)) (x .bounds) (under b ms q);
+            least = λ b ms q.
+                let k = least-total d a (node (t .nodes) (x .h)) (q .goal) b (λ ls l. subst (λ (y : CostBound). Under y (pathWorth d (q .goal) ls b)) (x .bounds) (under b ms q ls l)) (back ms) (turned b ms q) in
+                omega (arith, k, back-total g ms);
           }
 
 right : (dir : Direction) (g : Graph) → Accepted g → (ss gs mine : List ℕ) (ts : List Tree) (s : Search)

@@ -10,13 +10,14 @@ use lib.ListN.{length, replicate, take}
 use Rattle.model.specs.declared.BestSolution.the-variants.{NoBest}
 use Rattle.model.specs.Answers.{Reply, answered, refused, Status, waiting, solved, noPath}
 use Rattle.model.specs.Graph.{Edge, Graph, Direction, forward, backward, absent, domain, edgeNumbers}
+use Rattle.model.specs.Worth.{evaluationOf, weight, solutionCostOf}
 use Rattle.model.specs.Tree.{Tree}
 use Rattle.model.specs.Path.{path, words}
-use Rattle.model.specs.Sound.{soundTreesb}
+use Rattle.model.specs.Sound.{soundTreesb, starts}
 use Rattle.model.specs.Search.{blank, entryOf}
 use Rattle.model.specs.Calls.{Cache, opened, withTrees, firstFault, initializeFaults, initialize, retrace}
 use Rattle.model.specs.Solve.{isWaiting, AfterSteps, solve}
-use Rattle.model.specs.Demands.{waitLimit}
+use Rattle.model.specs.Demands.{Call, initializing, reading, both as bothCalls, after, waitLimit}
 use Rattle.model.specs.Reference as reference
 
 -- ---- an order: a search is opened, stepped until it answers, and its path is shown
@@ -51,7 +52,7 @@ turnedAway c n = record { cache = c; reply = refused n 0; waits = 0; tickets = 0
 
 -- eight steps are enough for each order below
 unfoldable pub order : Cache → List ℕ → List ℕ → Told
-unfolding told solve initialize
+unfolding told solve initialize solutionCostOf
 order c ss gs =
     let r = initialize c ss gs in
     elim (r .reply) [
@@ -75,7 +76,7 @@ spent [] = 0
 spent (t ∷ ts) = (length (t .nodes) - length (t .waiting)) + spent ts
 
 unfoldable pub referenceDrive : ℕ → ℕ → ℕ → Cache → reference.Memory → Told
-unfolding reference.step spent
+unfolding reference.step spent evaluationOf
 referenceDrive zero w k c m = record { cache = c; reply = answered waiting; waits = w; tickets = spent (c .trees) - k; path = [] }
 referenceDrive (suc f) w k c m =
     let r = reference.step (c .domain) (c .trees) m in
@@ -224,11 +225,11 @@ reference-left-backward = refl
 
 -- they are sound
 sound-forward : soundTreesb (order3 .cache .domain) (order3 .cache .trees) ≡ true
-unfolding soundTreesb order3
+unfolding soundTreesb order3 weight
 sound-forward = refl
 
 sound-backward : soundTreesb (order4 .cache .domain) (order4 .cache .trees) ≡ true
-unfolding soundTreesb order4
+unfolding soundTreesb order4 weight
 sound-backward = refl
 
 -- the edges by the vertex left: forward 0, 2 leave 0 and 1 leaves 1; backward 0 enters 1, and 2 and 1 enter 2, from 0 and from 1
@@ -390,3 +391,20 @@ nothing = record { initial = []; edges = [] }
 limit-met : waitLimit forward nothing [] [] ≡ 1
 unfolding waitLimit
 limit-met = refl
+
+-- ---- a call made of others makes them in their order: the trees of 0 and of 1 are planted one after the other, a call between them only reads
+
+abbrev pub openings : Call
+openings = bothCalls (bothCalls (initializing (0 ∷ []) []) reading) (initializing (1 ∷ []) [])
+
+in-order : starts (after (fresh forward) openings .trees) ≡ 0 ∷ 1 ∷ []
+unfolding after fresh
+in-order = refl
+
+reference-in-order : starts (reference.after (fresh forward) openings .trees) ≡ 0 ∷ 1 ∷ []
+unfolding reference.after initialize fresh
+reference-in-order = refl
+
+only-reads : (c : Cache) → (after c reading ≡ c) × (reference.after c reading ≡ c)
+unfolding after reference.after
+only-reads c = (refl, refl)

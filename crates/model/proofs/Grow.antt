@@ -14,10 +14,11 @@ use lib.ListN.{length, set, length-append, length-set, List·getD-append}
 use lib.Seq.{append-snoc, getD-append-add, getD-set-same, getD-set-other}
 use Rattle.model.specs.Lists.{upFrom}
 use Rattle.model.specs.Graph.{Domain, Accepted, Usable, from, to, cost, choices}
-use Rattle.model.specs.Tree.{Tree, Node, node, noNode, closedAt, evaluation, without, popped, close, closedWithin, appended, pushIf, pushNode, child, pushAll, expanded}
+use Rattle.model.specs.Tree.{Tree, Node, node, noNode, closedAt, evaluationOf, evaluation, weight, without, popped, close, closedWithin, appended, pushIf, pushNode, child, pushAll, expanded}
 use Rattle.model.specs.Sound.{Sound, Hangs, Reached, shut, waits, closedEdges}
 use Rattle.model.proofs.Lists.{without-mem, without-keeps, without-ascends, without-length, up-mem, up-has, up-ascends, up-length, append-ascends}
 use Rattle.model.proofs.Choices.{choices-mem, choices-has, choices-few, closed-more}
+use Rattle.model.proofs.Worth.{child-evaluation}
 use Rattle.model.proofs.Least.{node-inside}
 
 -- one number is below another or not
@@ -33,50 +34,50 @@ abbrev keepNode : Bool → Node → List Node → List Node
 keepNode true x l = x ∷ l
 keepNode false x l = l
 
--- what the edges ls give, hung on node n of cost k, except to vertices that the words cl say are closed
-unfoldable pub offspring : Domain → List ℕ → ℕ → ℕ → List ℕ → List Node
-offspring d cl n k [] = []
-offspring d cl n k (l ∷ ls) = keepNode (eqb (closedAt cl (to (d .graph) l)) 0) (child d n k l) (offspring d cl n k ls)
+-- what the edges ls give, hung on node n, which is p, except to vertices that the words cl say are closed
+unfoldable pub offspring : Domain → List ℕ → ℕ → Node → List ℕ → List Node
+offspring d cl n p [] = []
+offspring d cl n p (l ∷ ls) = keepNode (eqb (closedAt cl (to (d .graph) l)) 0) (child d n p l) (offspring d cl n p ls)
 
-offspring-at : (d : Domain) (cl : List ℕ) (n k : ℕ) (ls : List ℕ) (j : ℕ) → j < length (offspring d cl n k ls)
-    → (l : ℕ) × List·Memᴰ l ls × (node (offspring d cl n k ls) j ≡ child d n k l)
+offspring-at : (d : Domain) (cl : List ℕ) (n : ℕ) (p : Node) (ls : List ℕ) (j : ℕ) → j < length (offspring d cl n p ls)
+    → (l : ℕ) × List·Memᴰ l ls × (node (offspring d cl n p ls) j ≡ child d n p l)
 unfolding offspring
-offspring-at d cl n k [] j h = absurd (omega arith)
-offspring-at d cl n k (x ∷ xs) j h = go (λ i. offspring-at d cl n k xs i) (eqb (closedAt cl (to (d .graph) x)) 0) j h
+offspring-at d cl n p [] j h = absurd (omega arith)
+offspring-at d cl n p (x ∷ xs) j h = go (λ i. offspring-at d cl n p xs i) (eqb (closedAt cl (to (d .graph) x)) 0) j h
   where
     rest : List Node
-    rest = offspring d cl n k xs
+    rest = offspring d cl n p xs
 
-    go : ((i : ℕ) → i < length rest → (l : ℕ) × List·Memᴰ l xs × (node rest i ≡ child d n k l))
-        → (b : Bool) (j : ℕ) → j < length (keepNode b (child d n k x) rest)
-        → (l : ℕ) × List·Memᴰ l (x ∷ xs) × (node (keepNode b (child d n k x) rest) j ≡ child d n k l)
+    go : ((i : ℕ) → i < length rest → (l : ℕ) × List·Memᴰ l xs × (node rest i ≡ child d n p l))
+        → (b : Bool) (j : ℕ) → j < length (keepNode b (child d n p x) rest)
+        → (l : ℕ) × List·Memᴰ l (x ∷ xs) × (node (keepNode b (child d n p x) rest) j ≡ child d n p l)
     go ih true zero h = (x, List·Memᴰ·head refl, refl)
     go ih true (suc i) h = let r = ih i (omega arith) in (r .0, List·Memᴰ·tail (r .1), r .2)
     go ih false i h = let r = ih i h in (r .0, List·Memᴰ·tail (r .1), r .2)
 
-offspring-has : (d : Domain) (cl : List ℕ) (n k : ℕ) (ls : List ℕ) (l : ℕ) → List·Memᴰ l ls → closedAt cl (to (d .graph) l) ≡ 0
-    → (j : ℕ) × (j < length (offspring d cl n k ls)) × (node (offspring d cl n k ls) j ≡ child d n k l)
+offspring-has : (d : Domain) (cl : List ℕ) (n : ℕ) (p : Node) (ls : List ℕ) (l : ℕ) → List·Memᴰ l ls → closedAt cl (to (d .graph) l) ≡ 0
+    → (j : ℕ) × (j < length (offspring d cl n p ls)) × (node (offspring d cl n p ls) j ≡ child d n p l)
 unfolding offspring
-offspring-has d cl n k [] l m e = absurd (List·Memᴰ·not-nil m)
-offspring-has d cl n k (x ∷ xs) l m e = go (λ r. offspring-has d cl n k xs l r e) (eqb (closedAt cl (to (d .graph) x)) 0) refl (List·Memᴰ·cases-cons m)
+offspring-has d cl n p [] l m e = absurd (List·Memᴰ·not-nil m)
+offspring-has d cl n p (x ∷ xs) l m e = go (λ r. offspring-has d cl n p xs l r e) (eqb (closedAt cl (to (d .graph) x)) 0) refl (List·Memᴰ·cases-cons m)
   where
     rest : List Node
-    rest = offspring d cl n k xs
+    rest = offspring d cl n p xs
 
-    go : (List·Memᴰ l xs → (j : ℕ) × (j < length rest) × (node rest j ≡ child d n k l))
+    go : (List·Memᴰ l xs → (j : ℕ) × (j < length rest) × (node rest j ≡ child d n p l))
         → (b : Bool) → eqb (closedAt cl (to (d .graph) x)) 0 ≡ b → (l ≡ x) ⊎ List·Memᴰ l xs
-        → (j : ℕ) × (j < length (keepNode b (child d n k x) rest)) × (node (keepNode b (child d n k x) rest) j ≡ child d n k l)
-    go ih true q (inl h) = (zero, omega arith, ap (child d n k) (sym h))
-    go ih true q (inr r) = let p = ih r in (suc (p .0), omega (arith, p .1), p .2)
+        → (j : ℕ) × (j < length (keepNode b (child d n p x) rest)) × (node (keepNode b (child d n p x) rest) j ≡ child d n p l)
+    go ih true q (inl h) = (zero, omega arith, ap (child d n p) (sym h))
+    go ih true q (inr r) = let q = ih r in (suc (q .0), omega (arith, q .1), q .2)
     go ih false q (inl h) = absurd (eqb-false (closedAt cl (to (d .graph) x)) 0 q (ap (λ (y : ℕ). closedAt cl (to (d .graph) y)) (sym h) ∙ e))
     go ih false q (inr r) = ih r
 
-offspring-length : (d : Domain) (cl : List ℕ) (n k : ℕ) (ls : List ℕ) → length (offspring d cl n k ls) ≤ length ls
+offspring-length : (d : Domain) (cl : List ℕ) (n : ℕ) (p : Node) (ls : List ℕ) → length (offspring d cl n p ls) ≤ length ls
 unfolding offspring
-offspring-length d cl n k [] = omega arith
-offspring-length d cl n k (x ∷ xs) = go (offspring-length d cl n k xs) (eqb (closedAt cl (to (d .graph) x)) 0)
+offspring-length d cl n p [] = omega arith
+offspring-length d cl n p (x ∷ xs) = go (offspring-length d cl n p xs) (eqb (closedAt cl (to (d .graph) x)) 0)
   where
-    go : length (offspring d cl n k xs) ≤ length xs → (b : Bool) → length (keepNode b (child d n k x) (offspring d cl n k xs)) ≤ suc (length xs)
+    go : length (offspring d cl n p xs) ≤ length xs → (b : Bool) → length (keepNode b (child d n p x) (offspring d cl n p xs)) ≤ suc (length xs)
     go ih true = omega arith
     go ih false = omega arith
 
@@ -101,28 +102,30 @@ extended-cons t x xs =
     = rw pl (append-snoc (t .waiting) (length (t .nodes)) (upFrom (length xs) (suc (length (t .nodes))))) in
     λ i. record { start = t .start; nodes = pn i; waiting = pq i; closed = t .closed }
 
--- every closed word names a node, of cost k or less
+-- every closed word names a node, of evaluation k or less
 abbrev pub ClosedWithin : List Node → List ℕ → ℕ → Type 0
 ClosedWithin ns cl k = (v i : ℕ) → closedAt cl v ≡ suc i → (i < length ns) × (evaluation ns i ≤ k)
 
-pub push-all : (d : Domain) (n k : ℕ) (t : Tree) (ls : List ℕ) → ClosedWithin (t .nodes) (t .closed) k
-    → pushAll d n k t ls ≡ extended t (offspring d (t .closed) n k ls)
+pub push-all : (d : Domain) (n : ℕ) (p : Node) (t : Tree) (ls : List ℕ) → ClosedWithin (t .nodes) (t .closed) (evaluationOf p)
+    → pushAll d n p t ls ≡ extended t (offspring d (t .closed) n p ls)
 unfolding pushAll pushNode offspring
-push-all d n k t [] f = extended-none t
-push-all d n k t (l ∷ ls) f = go (λ u g. push-all d n k u ls g) (closedAt (t .closed) (to (d .graph) l)) refl
+push-all d n p t [] f = extended-none t
+push-all d n p t (l ∷ ls) f = go (λ u g. push-all d n p u ls g) (closedAt (t .closed) (to (d .graph) l)) refl
   where
-    go : ((u : Tree) → ClosedWithin (u .nodes) (u .closed) k → pushAll d n k u ls ≡ extended u (offspring d (u .closed) n k ls))
+    y : Node
+    y = child d n p l
+
+    go : ((u : Tree) → ClosedWithin (u .nodes) (u .closed) (evaluationOf p) → pushAll d n p u ls ≡ extended u (offspring d (u .closed) n p ls))
         → (z : ℕ) → closedAt (t .closed) (to (d .graph) l) ≡ z
-        → pushAll d n k (pushIf (closedWithin (t .nodes) (k + cost (d .graph) l) z) t (child d n k l)) ls
-        ≡ extended t (keepNode (eqb z 0) (child d n k l) (offspring d (t .closed) n k ls))
+        → pushAll d n p (pushIf (closedWithin (t .nodes) (evaluationOf y) z) t y) ls
+        ≡ extended t (keepNode (eqb z 0) y (offspring d (t .closed) n p ls))
     go ih zero e =
-        let y : Node = child d n k l in
-        let g : ClosedWithin (t .nodes ++ (y ∷ [])) (t .closed) k
+        let g : ClosedWithin (t .nodes ++ (y ∷ [])) (t .closed) (evaluationOf p)
         = λ v i h. let r = f v i h in (omega (arith, r .0, length-append (t .nodes) (y ∷ [])), rw (List·getD-append (t .nodes) (y ∷ []) noNode i (r .0)) (r .1)) in
-        ih (appended t y) g ∙ extended-cons t y (offspring d (t .closed) n k ls)
+        ih (appended t y) g ∙ extended-cons t y (offspring d (t .closed) n p ls)
     go ih (suc i) e =
         let r = f (to (d .graph) l) i e in
-        rw (le-leb (evaluation (t .nodes) i) (k + cost (d .graph) l) (omega (arith, r .1)), eqb·suc-zero i) (ih t f)
+        rw (le-leb (evaluation (t .nodes) i) (evaluationOf y) (omega (arith, r .1, child-evaluation d n p l)), eqb·suc-zero i) (ih t f)
 
 -- ---- a ticket for a closed vertex is skipped
 
@@ -170,15 +173,18 @@ module _ (d : Domain) (t : Tree) (ok : Sound d t) (n i : ℕ) (q : List·Memᴰ 
 
 module _ (d : Domain) (acc : Accepted (d .graph)) (t : Tree) (ok : Sound d t) (n : ℕ) (wn : List·Memᴰ n (t .waiting))
     (free : closedAt (t .closed) ((node (t .nodes) n) .vertex) ≡ 0)
-    (first : (j : ℕ) → List·Memᴰ j (t .waiting) → (node (t .nodes) n) .cost ≤ (node (t .nodes) j) .cost) where
+    (first : (j : ℕ) → List·Memᴰ j (t .waiting) → evaluation (t .nodes) n ≤ evaluation (t .nodes) j) where
   abbrev pub ns : List Node
   ns = t .nodes
 
   abbrev pub v : ℕ
   v = (node (t .nodes) n) .vertex
 
+  abbrev pub top : Node
+  top = node (t .nodes) n
+
   abbrev pub k : ℕ
-  k = (node (t .nodes) n) .cost
+  k = evaluation (t .nodes) n
 
   abbrev pub cl′ : List ℕ
   cl′ = set (t .closed) ((node (t .nodes) n) .vertex) (suc n)
@@ -187,7 +193,7 @@ module _ (d : Domain) (acc : Accepted (d .graph)) (t : Tree) (ok : Sound d t) (n
   out = choices d ((node (t .nodes) n) .vertex)
 
   abbrev pub new : List Node
-  new = offspring d cl′ n k out
+  new = offspring d cl′ n top out
 
   abbrev pub ns′ : List Node
   ns′ = ns ++ new
@@ -229,11 +235,11 @@ module _ (d : Domain) (acc : Accepted (d .graph)) (t : Tree) (ok : Sound d t) (n
     l : ℕ
     real : Usable (d .graph) l
     leaves : from (d .graph) l ≡ v
-    is : node ns′ i ≡ child d n k l
+    is : node ns′ i ≡ child d n top l
 
   new-at : (j : ℕ) → j < length new → New (length ns + j)
   new-at j h =
-      let r = offspring-at d cl′ n k out j h in
+      let r = offspring-at d cl′ n top out j h in
       let p = choices-mem d v (r .0) (r .1) in
       record { l = r .0; real = p .0; leaves = p .1; is = getD-append-add ns new j noNode ∙ r .2 }
 
@@ -254,30 +260,30 @@ module _ (d : Domain) (acc : Accepted (d .graph)) (t : Tree) (ok : Sound d t) (n
       go (inl z) = shut n (ap (closedAt cl′) (sym e ∙ ap (λ (y : ℕ). (node ns y) .vertex) z) ∙ now) (rw (old n here, ← z) h)
       go (inr r) = waits j (Memᴰ·append-left _ r) (rw (old j (ok .queue j w)) e) (rw (old j (ok .queue j w)) h)
 
-  pub closed-le : (x i : ℕ) → closedAt cl′ x ≡ suc i → (node ns′ i) .cost ≤ k
+  pub closed-le : (x i : ℕ) → closedAt cl′ x ≡ suc i → evaluation ns′ i ≤ k
   closed-le x i e = go (closed-cases x i e)
     where
-      go : ((x ≡ v) × (i ≡ n)) ⊎ (closedAt (t .closed) x ≡ suc i) → (node ns′ i) .cost ≤ k
+      go : ((x ≡ v) × (i ≡ n)) ⊎ (closedAt (t .closed) x ≡ suc i) → evaluation ns′ i ≤ k
       go (inl h) = rw (h .1, old n here) (omega arith)
       go (inr h) = rw (old i (ok .closer x i h .0)) (ok .cheapest x i n h wn)
 
-  pub waits-ge : (j : ℕ) → List·Memᴰ j q′ → k ≤ (node ns′ j) .cost
+  pub waits-ge : (j : ℕ) → List·Memᴰ j q′ → k ≤ evaluation ns′ j
   waits-ge j w = go (waits-cases j w)
     where
-      go : List·Memᴰ j (t .waiting) ⊎ ((length ns ≤ j) × (j < length ns′)) → k ≤ (node ns′ j) .cost
+      go : List·Memᴰ j (t .waiting) ⊎ ((length ns ≤ j) × (j < length ns′)) → k ≤ evaluation ns′ j
       go (inl h) = rw (old j (ok .queue j h)) (first j h)
-      go (inr h) = let r : New j = new-is j (h .0) (h .1) in rw (r .is) (omega arith)
+      go (inr h) = let r : New j = new-is j (h .0) (h .1) in rw (r .is) (omega (arith, child-evaluation d n top (r .l)))
 
   -- the edges of the vertex just closed
-  new-onward : (l : ℕ) → Usable (d .graph) l → from (d .graph) l ≡ v → Reached ns′ q′ cl′ (to (d .graph) l) ((node ns′ n) .cost + cost (d .graph) l)
+  new-onward : (l : ℕ) → Usable (d .graph) l → from (d .graph) l ≡ v → Reached ns′ q′ cl′ (to (d .graph) l) (evaluation ns′ n + weight d l)
   new-onward l h e = go (closedAt cl′ (to (d .graph) l)) refl
     where
-      go : (x : ℕ) → closedAt cl′ (to (d .graph) l) ≡ x → Reached ns′ q′ cl′ (to (d .graph) l) ((node ns′ n) .cost + cost (d .graph) l)
+      go : (x : ℕ) → closedAt cl′ (to (d .graph) l) ≡ x → Reached ns′ q′ cl′ (to (d .graph) l) (evaluation ns′ n + weight d l)
       go zero z =
-          let r = offspring-has d cl′ n k out l (choices-has d acc v l h e) z in
-          let is : node ns′ (length ns + r .0) ≡ child d n k l = getD-append-add ns new (r .0) noNode ∙ r .2 in
+          let r = offspring-has d cl′ n top out l (choices-has d acc v l h e) z in
+          let is : node ns′ (length ns + r .0) ≡ child d n top l = getD-append-add ns new (r .0) noNode ∙ r .2 in
           waits (length ns + r .0) (Memᴰ·append-right (without n (t .waiting)) (up-has (length new) (length ns) (r .0) (r .1)))
-          (ap (λ (x : Node). x .vertex) is) (rw (is, old n here) (omega arith))
+          (ap (λ (x : Node). x .vertex) is) (rw (is, old n here) (omega (arith, child-evaluation d n top l)))
       go (suc i) z = shut i z (rw (old n here) (omega (arith, closed-le (to (d .graph) l) i z)))
 
   new-hangs : (i : ℕ) → New i → length ns ≤ i → Hangs d ns′ cl′ i
@@ -285,7 +291,7 @@ module _ (d : Domain) (acc : Accepted (d .graph)) (t : Tree) (ok : Sound d t) (n
       let pl : (node ns′ i) .edge ≡ r .l = ap (λ (x : Node). x .edge) (r .is) in
       let pp : (node ns′ i) .parent ≡ n = ap (λ (x : Node). x .parent) (r .is) in
       let pv : (node ns′ i) .vertex ≡ to (d .graph) (r .l) = ap (λ (x : Node). x .vertex) (r .is) in
-      let pc : (node ns′ i) .cost ≡ k + cost (d .graph) (r .l) = ap (λ (x : Node). x .cost) (r .is) in
+      let pc : (node ns′ i) .cost ≡ top .cost + cost (d .graph) (r .l) = ap (λ (x : Node). x .cost) (r .is) in
       record {
         lower = omega (arith, here);
         real = rw pl (r .real);
@@ -323,7 +329,7 @@ module _ (d : Domain) (acc : Accepted (d .graph)) (t : Tree) (ok : Sound d t) (n
       go (inr h) = let r = ok .closer x i h in (omega (arith, r .0, length-append ns new), rw (old i (r .0)) (r .1))
 
   sound-few : length ns′ ≤ suc (length (closedEdges (d .graph) cl′))
-  sound-few = omega (arith, closed-more (d .graph) (t .closed) v n in-closed free, ok .few, length-append ns new, offspring-length d cl′ n k out, choices-few d v)
+  sound-few = omega (arith, closed-more (d .graph) (t .closed) v n in-closed free, ok .few, length-append ns new, offspring-length d cl′ n top out, choices-few d v)
 
   sound-begun : (closedAt (t .closed) (t .start) ≢ 0) ⊎ List·Memᴰ 0 (t .waiting) → (closedAt cl′ (t .start) ≢ 0) ⊎ List·Memᴰ 0 q′
   sound-begun (inl h) = inl (go (closedAt (t .closed) (t .start)) refl)
@@ -339,10 +345,10 @@ module _ (d : Domain) (acc : Accepted (d .graph)) (t : Tree) (ok : Sound d t) (n
   ]
 
   sound-onward : (x i l : ℕ) → closedAt cl′ x ≡ suc i → Usable (d .graph) l → from (d .graph) l ≡ x
-      → Reached ns′ q′ cl′ (to (d .graph) l) ((node ns′ i) .cost + cost (d .graph) l)
+      → Reached ns′ q′ cl′ (to (d .graph) l) (evaluation ns′ i + weight d l)
   sound-onward x i l e h g = go (closed-cases x i e)
     where
-      go : ((x ≡ v) × (i ≡ n)) ⊎ (closedAt (t .closed) x ≡ suc i) → Reached ns′ q′ cl′ (to (d .graph) l) ((node ns′ i) .cost + cost (d .graph) l)
+      go : ((x ≡ v) × (i ≡ n)) ⊎ (closedAt (t .closed) x ≡ suc i) → Reached ns′ q′ cl′ (to (d .graph) l) (evaluation ns′ i + weight d l)
       go (inl z) = rw (z .1) (new-onward l h (g ∙ z .0))
       go (inr z) = rw (old i (ok .closer x i z .0)) (grown-reached (to (d .graph) l) _ (ok .onward x i l z h g))
 
@@ -359,7 +365,7 @@ module _ (d : Domain) (acc : Accepted (d .graph)) (t : Tree) (ok : Sound d t) (n
 
   pub expanded-is : expanded d (popped t n) n ≡ closing
   unfolding expanded popped close
-  expanded-is = push-all d n k (close (popped t n) v n) out within
+  expanded-is = push-all d n top (close (popped t n) v n) out within
 
   closing-sound : Sound d closing
   closing-sound =

@@ -24,7 +24,7 @@ use Rattle.model.specs.Tree.{Tree, closedAt, newTree}
 use Rattle.model.specs.Sound.{tree, noTree, Sound, SoundTrees}
 use Rattle.model.specs.Search.{entry, goals, bound, lookup, turn, turnBy, Walk, round, rounds, walk, withExhausted, seek, plant, plantAll, rootsOf}
 use Rattle.model.specs.Calls.{Cache, SoundCache, soundCacheb, firstFault, initializeBy, initializeFaults, initialize, stepIf, stepBy, stepFaults, step}
-use Rattle.model.specs.Demands.{Call, initializing, stepping, retracing, after, afterAll}
+use Rattle.model.specs.Demands.{Call, initializing, stepping, retracing, reading, both, after, afterAll}
 use Rattle.model.proofs.Bools.{and-true, true-and}
 use Rattle.model.proofs.Faults.{may-initialize, roots-below}
 use Rattle.model.proofs.Tests.{trees-at, at-trees}
@@ -310,18 +310,22 @@ module _ (c : Cache) (acc : Accepted (c .domain .graph)) (ok : SoundCache c) whe
       go (some n) = kept-refl c ok
       go none = run (s .exhausted)
 
-  pub after-keeps : (x : Call) → KeptCache c (after c x)
-  unfolding after
-  after-keeps (initializing ss gs) = initialize-keeps ss gs
-  after-keeps (stepping s) = step-keeps s
-  after-keeps (retracing s p) = kept-refl c ok
-
 pub accepted-kept : (c c′ : Cache) → KeptCache c c′ → Accepted (c .domain .graph) → Accepted (c′ .domain .graph)
 accepted-kept c c′ k acc = subst (λ (d : Domain). Accepted (d .graph)) (sym (k .domain)) acc
+
+-- one call after the other
+kept-on : (c b : Cache) → Accepted (c .domain .graph) → KeptCache c b → (d : Cache) → (Accepted (b .domain .graph) → SoundCache b → KeptCache b d) → KeptCache c d
+kept-on c b acc k d next = kept-trans c b d k (next (accepted-kept c b k acc) (kept-sound c b k))
+
+pub after-keeps : (c : Cache) → Accepted (c .domain .graph) → SoundCache c → (x : Call) → KeptCache c (after c x)
+unfolding after
+after-keeps c acc ok (initializing ss gs) = initialize-keeps c acc ok ss gs
+after-keeps c acc ok (stepping s) = step-keeps c acc ok s
+after-keeps c acc ok (retracing s p) = kept-refl c ok
+after-keeps c acc ok reading = kept-refl c ok
+after-keeps c acc ok (both x y) = kept-on c (after c x) acc (after-keeps c acc ok x) _ (λ a o. after-keeps (after c x) a o y)
 
 pub after-all-keeps : (c : Cache) → Accepted (c .domain .graph) → SoundCache c → (xs : List Call) → KeptCache c (afterAll c xs)
 unfolding afterAll
 after-all-keeps c acc ok [] = kept-refl c ok
-after-all-keeps c acc ok (x ∷ xs) =
-    let k = after-keeps c acc ok x in
-    kept-trans c (after c x) _ k (after-all-keeps (after c x) (accepted-kept c (after c x) k acc) (kept-sound c (after c x) k) xs)
+after-all-keeps c acc ok (x ∷ xs) = kept-on c (after c x) acc (after-keeps c acc ok x) _ (λ a o. after-all-keeps (after c x) a o xs)

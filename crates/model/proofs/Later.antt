@@ -18,7 +18,7 @@ use Rattle.model.specs.Sound.{Sound, Hangs}
 use Rattle.model.specs.Search.{closedCount, countIf}
 use Rattle.model.specs.Path.{snocIf, pathIn, path}
 use Rattle.model.proofs.Lists.{before-cost, Least, least-is, without-length}
-use Rattle.model.proofs.Grow.{popped-sound, expanded-sound, expanded-ticket, expanded-is, old, still, closed-cases, closed-le, now, in-closed, cl′, new, closing}
+use Rattle.model.proofs.Grow.{popped-sound, expanded-sound, expanded-ticket, expanded-is, old, still, closed-cases, now, in-closed, cl′, new, closing}
 
 pub record Later (t t′ : Tree) : Type 0 where
   pub start : t′ .start ≡ t .start
@@ -58,7 +58,7 @@ count-set (x ∷ xs) (suc v) n h e = go (count-set xs v n (omega arith) e) (eqb 
 -- what a ticket taken from t can come to
 module _ (d : Domain) (acc : Accepted (d .graph)) (goals : List ℕ) (b : CostBound) (t : Tree) (ok : Sound d t) where
   abbrev Firsts : ℕ → Type 0
-  Firsts n = (j : ℕ) → List·Memᴰ j (t .waiting) → (node (t .nodes) n) .cost ≤ (node (t .nodes) j) .cost
+  Firsts n = (j : ℕ) → List·Memᴰ j (t .waiting) → evaluation (t .nodes) n ≤ evaluation (t .nodes) j
 
   pub ticket-cases : (k : ℕ) (P : Growth → Type 0)
       → (t .waiting ≡ [] → P (record { tree = t; tickets = k; going = over }))
@@ -118,12 +118,11 @@ module _ (d : Domain) (acc : Accepted (d .graph)) (goals : List ℕ) (b : CostBo
 abbrev pub OnlyOld : List ℕ → List ℕ → List ℕ → Type 0
 OnlyOld goals cl₀ cl = (x i : ℕ) → mem x goals ≡ true → closedAt cl x ≡ suc i → closedAt cl₀ x ≡ suc i
 
--- node n was found: the one goal closed since, and the dearest closed
+-- node n was found: the one goal closed since
 pub record Found (goals : List ℕ) (ns : List Node) (cl₀ cl : List ℕ) (n : ℕ) : Type 0 where
   pub goal : mem ((node ns n) .vertex) goals ≡ true
   pub closes : closedAt cl ((node ns n) .vertex) ≡ suc n
   pub only : (x i : ℕ) → mem x goals ≡ true → closedAt cl x ≡ suc i → (closedAt cl₀ x ≡ suc i) ⊎ (i ≡ n)
-  pub last : (x i : ℕ) → closedAt cl x ≡ suc i → (node ns i) .cost ≤ (node ns n) .cost
 
 abbrev pub Gone : List ℕ → List Node → List ℕ → List ℕ → Going → Type 0
 Gone goals ns cl₀ cl on = OnlyOld goals cl₀ cl
@@ -157,7 +156,7 @@ module _ (d : Domain) (acc : Accepted (d .graph)) (goals : List ℕ) (b : CostBo
         }
 
     module _ (n : ℕ) (m : List·Memᴰ n (t .waiting)) (free : closedAt (t .closed) ((node (t .nodes) n) .vertex) ≡ 0)
-        (first : (j : ℕ) → List·Memᴰ j (t .waiting) → (node (t .nodes) n) .cost ≤ (node (t .nodes) j) .cost) where
+        (first : (j : ℕ) → List·Memᴰ j (t .waiting) → evaluation (t .nodes) n ≤ evaluation (t .nodes) j) where
       abbrev after : Tree
       after = closing d acc t (r .sound) n m free first
 
@@ -175,7 +174,6 @@ module _ (d : Domain) (acc : Accepted (d .graph)) (goals : List ℕ) (b : CostBo
             goal = rw same e;
             closes = rw same (now d acc t (r .sound) n m free first);
             only = λ x i p h. elim (closed-cases d acc t (r .sound) n m free first x i h) [ inl z ↦ inr (z .1) | inr z ↦ inl (r .gone x i p z) ];
-            last = λ x i h. rw same (closed-le d acc t (r .sound) n m free first x i h);
           }
       close-gone false true e = close-old e
       close-gone false false e = close-old e

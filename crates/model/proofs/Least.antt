@@ -11,11 +11,12 @@ use native.Mathlib.Omega.{arith}
 use borrow.Author.Tests.{eqb-true, eqb-false}
 use lib.Dec.{eqb}
 use lib.ListN.{length}
-use Rattle.model.specs.Graph.{Domain, Accepted, Usable, Leads, total, from, to, cost, vertexCount, initialCost}
-use Rattle.model.specs.Tree.{Tree, Node, node, closedAt}
+use Rattle.model.specs.Graph.{Domain, Accepted, Usable, Leads, total, from, to, vertexCount, initialCost}
+use Rattle.model.specs.Tree.{Tree, Node, node, closedAt, evaluation, weight}
 use Rattle.model.specs.Sound.{Sound, Hangs, Reached, shut, waits}
 use Rattle.model.specs.Path.{snocIf, pathIn, path}
 use Rattle.model.proofs.Paths.{leads-snoc, total-snoc}
+use Rattle.model.proofs.Worth.{rootWeight, root-evaluation, weights, pathWeight, least-cost}
 
 -- ---- the root, and where the nodes are
 
@@ -42,16 +43,16 @@ module _ (d : Domain) (t : Tree) (ok : Sound d t) where
         omega (arith, sym e ∙ one)
   ]
 
-  pub start-reached : Reached (t .nodes) (t .waiting) (t .closed) (t .start) (initialCost d (t .start))
+  pub start-reached : Reached (t .nodes) (t .waiting) (t .closed) (t .start) (rootWeight d (t .start))
   start-reached = go (ok .begun) (closedAt (t .closed) (t .start)) refl
     where
       Goal : Type 0
-      Goal = Reached (t .nodes) (t .waiting) (t .closed) (t .start) (initialCost d (t .start))
+      Goal = Reached (t .nodes) (t .waiting) (t .closed) (t .start) (rootWeight d (t .start))
 
       go : (closedAt (t .closed) (t .start) ≢ 0) ⊎ List·Memᴰ 0 (t .waiting) → (x : ℕ) → closedAt (t .closed) (t .start) ≡ x → Goal
       go (inl h) zero e = absurd (h e)
-      go (inr h) zero e = waits 0 h (ok .root-vertex) (omega (arith, ok .root-cost))
-      go h (suc i) e = shut i e (rw (root-closes i e) (omega (arith, ok .root-cost)))
+      go (inr h) zero e = waits 0 h (ok .root-vertex) (omega (arith, root-evaluation d t ok))
+      go h (suc i) e = shut i e (rw (root-closes i e) (omega (arith, root-evaluation d t ok)))
 
 -- a root of a vertex, and all other nodes hang
 pub hung-inside : (d : Domain) → Accepted (d .graph) → (ns : List Node) (cl : List ℕ) → (node ns 0) .vertex < vertexCount (d .graph)
@@ -69,35 +70,35 @@ module _ (d : Domain) (acc : Accepted (d .graph)) (t : Tree) (ok : Sound d t) wh
 
 -- v is closed at no more than k, or something waits at no more than k
 pub data Front (t : Tree) (v k : ℕ) : Type 0 where
-  done : (i : ℕ) → closedAt (t .closed) v ≡ suc i → (node (t .nodes) i) .cost ≤ k → Front t v k
-  later : (i : ℕ) → List·Memᴰ i (t .waiting) → (node (t .nodes) i) .cost ≤ k → Front t v k
+  done : (i : ℕ) → closedAt (t .closed) v ≡ suc i → evaluation (t .nodes) i ≤ k → Front t v k
+  later : (i : ℕ) → List·Memᴰ i (t .waiting) → evaluation (t .nodes) i ≤ k → Front t v k
 
 front : (t : Tree) (v k : ℕ) → Reached (t .nodes) (t .waiting) (t .closed) v k → (j : ℕ) → k ≤ j → Front t v j
 front t v k (shut i e h) j le = done i e (omega arith)
 front t v k (waits i w e h) j le = later i w (omega arith)
 
 module _ (d : Domain) (t : Tree) (ok : Sound d t) where
-  front-edge : (a k l : ℕ) → Usable (d .graph) l → from (d .graph) l ≡ a → Front t a k → Front t (to (d .graph) l) (k + cost (d .graph) l)
-  front-edge a k l h e (done i q le) = front t _ _ (ok .onward a i l q h e) (k + cost (d .graph) l) (omega arith)
+  front-edge : (a k l : ℕ) → Usable (d .graph) l → from (d .graph) l ≡ a → Front t a k → Front t (to (d .graph) l) (k + weight d l)
+  front-edge a k l h e (done i q le) = front t _ _ (ok .onward a i l q h e) (k + weight d l) (omega arith)
   front-edge a k l h e (later i w le) = later i w (omega arith)
 
-  front-path : (ls : List ℕ) (a k v : ℕ) → Leads (d .graph) a ls v → Front t a k → Front t v (k + total (d .graph) ls)
+  front-path : (ls : List ℕ) (a k v : ℕ) → Leads (d .graph) a ls v → Front t a k → Front t v (k + weights d ls)
   front-path [] a k v r f = rw (← r, add-zero) f
   front-path (l ∷ ls) a k v r f =
-      rw (← add-assoc k (cost (d .graph) l) (total (d .graph) ls))
-      (front-path ls (to (d .graph) l) (k + cost (d .graph) l) v (r .2) (front-edge a k l (r .0) (r .1) f))
+      rw (← add-assoc k (weight d l) (weights d ls))
+      (front-path ls (to (d .graph) l) (k + weight d l) v (r .2) (front-edge a k l (r .0) (r .1) f))
 
-  at-most : (v i k : ℕ) → closedAt (t .closed) v ≡ suc i → Front t v k → (node (t .nodes) i) .cost ≤ k
+  at-most : (v i k : ℕ) → closedAt (t .closed) v ≡ suc i → Front t v k → evaluation (t .nodes) i ≤ k
   at-most v i k e (done j q le) = let same : i ≡ j = cc in rw same le
   at-most v i k e (later j w le) = le-trans (ok .cheapest v i j e w) le
 
   -- where a path leads to
-  pub front-start : (v : ℕ) (ls : List ℕ) → Leads (d .graph) (t .start) ls v → Front t v (initialCost d (t .start) + total (d .graph) ls)
-  front-start v ls r = front-path ls (t .start) (initialCost d (t .start)) v r (front t _ _ (start-reached d t ok) (initialCost d (t .start)) (omega arith))
+  pub front-start : (v : ℕ) (ls : List ℕ) → Leads (d .graph) (t .start) ls v → Front t v (pathWeight d (t .start) ls)
+  front-start v ls r = front-path ls (t .start) (rootWeight d (t .start)) v r (front t _ _ (start-reached d t ok) (rootWeight d (t .start)) (omega arith))
 
-  pub closed-least : (v i : ℕ) (ls : List ℕ) → closedAt (t .closed) v ≡ suc i → Leads (d .graph) (t .start) ls v
+  pub closed-least : Accepted (d .graph) → (v i : ℕ) (ls : List ℕ) → closedAt (t .closed) v ≡ suc i → Leads (d .graph) (t .start) ls v
       → (node (t .nodes) i) .cost ≤ initialCost d (t .start) + total (d .graph) ls
-  closed-least v i ls e r = at-most v i (initialCost d (t .start) + total (d .graph) ls) e (front-start v ls r)
+  closed-least acc v i ls e r = least-cost d acc (node (t .nodes) i) (t .start) v (λ ms q. at-most v i _ e (front-start v ms q)) ls r
 
 -- ---- the path of a node
 
@@ -139,6 +140,6 @@ module _ (d : Domain) (t : Tree) (ok : Sound d t) where
   pub no-more : t .waiting ≡ [] → (v : ℕ) (ls : List ℕ) → Leads (d .graph) (t .start) ls v → (i : ℕ) × (closedAt (t .closed) v ≡ suc i)
   no-more w v ls r = go (front-start d t ok v ls r)
     where
-      go : Front t v (initialCost d (t .start) + total (d .graph) ls) → (i : ℕ) × (closedAt (t .closed) v ≡ suc i)
+      go : Front t v (pathWeight d (t .start) ls) → (i : ℕ) × (closedAt (t .closed) v ≡ suc i)
       go (done i e h) = (i, e)
       go (later i q h) = absurd (List·Memᴰ·not-nil (rw w at q))

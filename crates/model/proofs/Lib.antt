@@ -9,6 +9,7 @@ pub mod Choices
 pub mod Rows
 pub mod Tests
 pub mod Words
+pub mod Worth
 pub mod Least
 pub mod Grow
 pub mod Later

@@ -201,13 +201,13 @@ module _ (d : Domain) (vs gs : List ℕ) (ts : List Tree) (few : length vs ≤ 6
       let a = seek-at us (r .0) ((getD es (f .j) blank) .tree) (f .at) in
       record { inside = omega (arith, a .0); root = rw (z, a .1) (p .0); allowed = rw (z, a .1) (true-allowed d (r .0) (p .1)) }
 
-  opened-entry : (e : TreeMemory) → Rooted d vs us e → EntryOk (λ i. List·Memᴰ i (slotsOf d us vs)) gs us Unbounded e
+  opened-entry : (e : TreeMemory) → Rooted d vs us e → EntryOk (λ i. List·Memᴰ i (slotsOf d us vs)) d gs us Unbounded e
   unfolding slotsOf
   opened-entry e k =
       record {
         own = rw (index-is us (k .v) (e .tree) (k .at)) (map-has (index us) (distinct (allowedb d) vs) (k .v) (distinct-has (allowedb d) vs (k .v) (k .root) (allowed-true d (k .v) (k .allowed))));
         inside = seek-at us (k .v) (e .tree) (k .at) .0;
-        known = subst (λ (x : TreeMemory). Known gs (tree us (e .tree)) (x .«last_known_closed_len») (x .solution)) (sym (k .is)) (first-known gs (tree us (e .tree)));
+        known = subst (λ (x : TreeMemory). Known d gs (tree us (e .tree)) (x .«last_known_closed_len») (x .solution)) (sym (k .is)) (first-known d gs (tree us (e .tree)));
         low = λ n z. absurd (unsolved-at n (sym (ap (λ (x : TreeMemory). x .solution) (k .is)) ∙ z));
       }
 
@@ -229,8 +229,8 @@ module _ (d : Domain) (vs gs : List ℕ) (ts : List Tree) (few : length vs ≤ 6
         key-counts = few-goals;
         below = rw opened-goals below;
         entries = λ j h.
-            subst (λ (x : List ℕ). EntryOk (λ i. List·Memᴰ i (slotsOf d us vs)) x us Unbounded (entry new j)) (sym opened-goals)
-            (subst (EntryOk (λ i. List·Memᴰ i (slotsOf d us vs)) gs us Unbounded) (sym (entry-is j h)) (opened-entry (getD es j blank) (R .entries j h)));
+            subst (λ (x : List ℕ). EntryOk (λ i. List·Memᴰ i (slotsOf d us vs)) d x us Unbounded (entry new j)) (sym opened-goals)
+            (subst (EntryOk (λ i. List·Memᴰ i (slotsOf d us vs)) d gs us Unbounded) (sym (entry-is j h)) (opened-entry (getD es j blank) (R .entries j h)));
         best = tt;
       }
 

@@ -19,12 +19,14 @@ use Rattle.model.specs.declared.Solution.{Solution}
 use Rattle.model.specs.declared.Solution.the-variants.{Unsolved, At}
 use Rattle.model.specs.declared.TreeMemory.{TreeMemory}
 use Rattle.model.specs.Graph.{Domain, Direction, forward, backward, absent, vertexCount, to, choices, initialCost}
+use Rattle.model.specs.Worth.{solutionCostOf}
 use Rattle.model.specs.Tree.{Tree, Node, node, closedAt, evaluationOf, closedWithin, pushIf, child, newTree, rootNode, pushAll}
 use Rattle.model.specs.Tree as trees
 use Rattle.model.specs.Sound.{noTree, tree, SoundTrees}
 use Rattle.model.specs.Search.{closedCount, remembers, chosen, consider, cheapest, lookupIf, lookup, seek, Planted, entryOf, plant, plantAll, rootsOf, goalsOf, newSearch, blank}
 use Rattle.model.specs.SimpleGraph.{edgesFromVertex}
-use Rattle.model.specs.Reference.{Path, TreeEntry, retraceNode, statusOfWord, statusForKey, rejects, pushUnless, pushNode, get, put, entryAt, plantedTree, Opening, opening, openings, Opened, forwardInitialize, initializeIn, initialize, pathIf, lookAt, lookGoals, sameLen, lookUnless, textGraph, pushChoices, readKnown, readSolution, readEntry, readMemory}
+use Rattle.model.specs.Reference.{costOf, Path, TreeEntry, retraceNode, statusOfWord, statusForKey, rejects, pushUnless, pushNode, get, put, entryAt, plantedTree, Opening, opening, openings, Opened, forwardInitialize, initializeIn, initialize, pathIf, lookAt, lookGoals, sameLen, lookUnless, textGraph, pushChoices, readKnown, readSolution, readEntry, readMemory}
+use Rattle.model.proofs.Worth.{evaluation-cost, solution-costs}
 use Rattle.model.proofs.Reversed.{domain-cost}
 use Rattle.model.proofs.Rows.{targetOf, rows-held}
 use Rattle.model.proofs.Keeps.{seek-at, seek-none, empty-word}
@@ -113,9 +115,9 @@ seek-missing ts v e = unplanted-get ts v (seek-none ts v 0 e)
 
 -- ---- pushed nodes
 
-rejects-is : (ns : List Node) (x : Node) (w : ℕ) → rejects ns x (statusOfWord w) ≡ closedWithin ns (evaluationOf x) w
+pub rejects-is : (ns : List Node) (x : Node) (w : ℕ) → rejects ns x (statusOfWord w) ≡ closedWithin ns (evaluationOf x) w
 rejects-is ns x zero = refl
-rejects-is ns x (suc i) = refl
+rejects-is ns x (suc i) = sym (ap₂ leb (evaluation-cost (node ns i)) (evaluation-cost x))
 
 unless-is : (b : Bool) (t : Tree) (x : Node) → pushUnless b t x ≡ pushIf b t x
 unless-is true t x = refl
@@ -127,18 +129,18 @@ push-is t x =
     ap (λ (b : Bool). pushUnless b t x) (rejects-is (t .nodes) x (closedAt (t .closed) (x .vertex)))
     ∙ unless-is (closedWithin (t .nodes) (evaluationOf x) (closedAt (t .closed) (x .vertex))) t x
 
-pub choices-is : (d : Domain) (n k : ℕ) (t : Tree) (ls : List ℕ) → pushChoices d n k t (map (targetOf (d .graph)) ls) ≡ pushAll d n k t ls
+pub choices-is : (d : Domain) (n : ℕ) (p : Node) (t : Tree) (ls : List ℕ) → pushChoices d n p t (map (targetOf (d .graph)) ls) ≡ pushAll d n p t ls
 unfolding pushChoices pushAll
-choices-is d n k t [] = refl
-choices-is d n k t (l ∷ ls) =
-    choices-is d n k _ ls
-    ∙ ap (λ (u : Tree). pushAll d n k u ls)
-    (ap (λ (c : ℕ). pushNode t (record { vertex = to (d .graph) l; cost = k + c; parent = n; edge = l })) (domain-cost (d .direction) (d .graph) l) ∙ push-is t (child d n k l))
+choices-is d n p t [] = refl
+choices-is d n p t (l ∷ ls) =
+    choices-is d n p _ ls
+    ∙ ap (λ (u : Tree). pushAll d n p u ls)
+    (ap (λ (c : ℕ). pushNode t (record { vertex = to (d .graph) l; cost = p .cost + c; parent = n; edge = l })) (domain-cost (d .direction) (d .graph) l) ∙ push-is t (child d n p l))
 
 -- a row of the Rust's edge table, pushed
-pub row-is : (d : Domain) (n k : ℕ) (t : Tree) (v : ℕ) → v < vertexCount (d .graph)
-    → pushChoices d n k t (edgesFromVertex (d .direction) (textGraph d) v) ≡ pushAll d n k t (choices d v)
-row-is d n k t v inside = ap (pushChoices d n k t) (rows-held d v inside) ∙ choices-is d n k t (choices d v)
+pub row-is : (d : Domain) (n : ℕ) (p : Node) (t : Tree) (v : ℕ) → v < vertexCount (d .graph)
+    → pushChoices d n p t (edgesFromVertex (d .direction) (textGraph d) v) ≡ pushAll d n p t (choices d v)
+row-is d n p t v inside = ap (pushChoices d n p t) (rows-held d v inside) ∙ choices-is d n p t (choices d v)
 
 pub planted-is : (d : Domain) (v : ℕ) → plantedTree d v ≡ newTree d v
 unfolding plantedTree newTree pushNode
@@ -283,13 +285,19 @@ module _ (d : Domain) (ns : List Node) where
   consider-is o zero = refl
   consider-is Unsolved (suc i) = refl
   consider-is (At j) (suc i) =
-      ap (λ (k : ℕ). pathIf (leb k ((node ns i) .cost)) (some (retraceNode ns j)) (retraceNode ns i)) (retrace-cost ns j)
-      ∙ go (ltb ((node ns i) .cost) ((node ns j) .cost)) refl
+      ap (λ (k : ℕ). pathIf (leb k (costOf x)) (some (retraceNode ns j)) (retraceNode ns i)) (retrace-cost ns j)
+      ∙ go (ltb (solutionCostOf d x) (solutionCostOf d y)) refl
     where
-      go : (b : Bool) → ltb ((node ns i) .cost) ((node ns j) .cost) ≡ b
-          → pathIf (leb ((node ns j) .cost) ((node ns i) .cost)) (some (retraceNode ns j)) (retraceNode ns i) ≡ readSolution ns (chosen b i j)
-      go true e = rw (lt-leb ((node ns j) .cost) ((node ns i) .cost) (ltb-true _ _ e))
-      go false e = rw (le-leb ((node ns j) .cost) ((node ns i) .cost) (ltb-false _ _ e))
+      x : Node
+      x = node ns i
+
+      y : Node
+      y = node ns j
+
+      go : (b : Bool) → ltb (solutionCostOf d x) (solutionCostOf d y) ≡ b
+          → pathIf (leb (costOf y) (costOf x)) (some (retraceNode ns j)) (retraceNode ns i) ≡ readSolution ns (chosen b i j)
+      go true e = rw (lt-leb (costOf y) (costOf x) (omega (arith, ltb-true (solutionCostOf d x) (solutionCostOf d y) e, solution-costs d x, solution-costs d y)))
+      go false e = rw (le-leb (costOf y) (costOf x) (omega (arith, ltb-false (solutionCostOf d x) (solutionCostOf d y) e, solution-costs d x, solution-costs d y)))
 
   cheapest-is : (t : Tree) → t .nodes ≡ ns → (vs : List ℕ) (o : Solution) → lookGoals t vs (readSolution ns o) ≡ readSolution ns (cheapest d ns (t .closed) vs o)
   unfolding lookGoals cheapest

@@ -8,20 +8,32 @@ use Rattle.model.specs.Graph.{Domain, Accepted}
 use Rattle.model.specs.Tree.{Tree}
 use Rattle.model.specs.Valid.{valid}
 use Rattle.model.specs.Calls.{Cache, SoundCache, withTrees, AfterStep, stepIf, step}
-use Rattle.model.specs.Demands.{Call, after, afterAll, Act, ownStep, ownRetrace, other, Event, stepped, retraced, events}
+use Rattle.model.specs.Demands.{Call, initializing, stepping, retracing, reading, both, after, afterAll, Act, ownStep, ownRetrace, other, Event, stepped, retraced, events}
 use Rattle.model.specs.Reference.{Memory, Answered, readMemory, replyOf, shownOf, pathStatus}
 use Rattle.model.specs.Reference as reference
 use Rattle.model.proofs.Keeps.{KeptCache, kept-sound, accepted-kept, step-keeps, after-keeps}
 use Rattle.model.proofs.RefinesRead.{valid-readable, read-later}
 use Rattle.model.proofs.Faults.{step-if}
-use Rattle.model.proofs.RefinesStep.{read-flag, StepIs, if-is, retrace-is, after-is}
+use Rattle.model.proofs.RefinesStep.{read-flag, StepIs, if-is, retrace-is, initialize-leaves, step-leaves}
+
+-- ---- any call
+
+pub after-is : (c : Cache) → Accepted (c .domain .graph) → SoundCache c → (x : Call) → reference.after c x ≡ after c x
+unfolding reference.after after
+after-is c acc ok (initializing ss gs) = initialize-leaves c acc (ok .trees) ss gs
+after-is c acc ok (stepping s) = step-leaves c acc (ok .trees) s
+after-is c acc ok (retracing s p) = refl
+after-is c acc ok reading = refl
+after-is c acc ok (both x y) =
+    let k : KeptCache c (after c x) = after-keeps c acc ok x in
+    ap (λ (z : Cache). reference.after z y) (after-is c acc ok x) ∙ after-is (after c x) (accepted-kept c (after c x) k acc) (kept-sound c (after c x) k) y
 
 pub after-all-is : (xs : List Call) (c : Cache) → Accepted (c .domain .graph) → SoundCache c → reference.afterAll c xs ≡ afterAll c xs
 unfolding reference.afterAll afterAll
 after-all-is [] c acc ok = refl
 after-all-is (x ∷ xs) c acc ok =
     let k : KeptCache c (after c x) = after-keeps c acc ok x in
-    ap (λ (z : Cache). reference.afterAll z xs) (after-is c acc (ok .trees) x)
+    ap (λ (z : Cache). reference.afterAll z xs) (after-is c acc ok x)
     ∙ after-all-is xs (after c x) (accepted-kept c (after c x) k acc) (kept-sound c (after c x) k)
 
 -- P: what holds of a cache and the search's own record at every call
@@ -68,5 +80,5 @@ module _ (P : Cache → Search → Type 0) (fine : (c : Cache) (s : Search) → 
       (events-is acts c s acc ok p)
   events-is (other x ∷ acts) c s acc ok p =
       let k : KeptCache c (after c x) = after-keeps c acc ok x in
-      ap₂ (λ (z : Cache) (m : Memory). reference.events z m acts) (after-is c acc (ok .trees) x) (memory-kept c (after c x) s ok p k)
+      ap₂ (λ (z : Cache) (m : Memory). reference.events z m acts) (after-is c acc ok x) (memory-kept c (after c x) s ok p k)
       ∙ events-is acts (after c x) s (accepted-kept c (after c x) k acc) (kept-sound c (after c x) k) (others c s p x)

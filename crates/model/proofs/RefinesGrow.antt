@@ -1,6 +1,6 @@
 -- The reference's growing of a sound tree, and an entry's turn, are the definitions', with nodes read as their paths.
 -- Assumes nothing.
-use mathlib.Core.Path.{_≡_, refl, ap, ap₂, _∙_, subst}
+use mathlib.Core.Path.{_≡_, refl, sym, ap, ap₂, _∙_, subst}
 use mathlib.Core.Logic.{inl, inr}
 use mathlib.Core.Bool.{Bool, true, false, not, _&&_, _||_}
 use mathlib.Core.List.{List, [], _∷_, List·Memᴰ, List·Memᴰ·head, List·Memᴰ·tail}
@@ -15,16 +15,17 @@ use Rattle.model.specs.declared.Solution.{Solution}
 use Rattle.model.specs.declared.Solution.the-variants.{Unsolved, At}
 use Rattle.model.specs.Lists.{mem}
 use Rattle.model.specs.Graph.{Domain, Accepted}
-use Rattle.model.specs.Tree.{Tree, Node, node, closedAt, evaluation, precedes, pick, leastOf, least, popped, close, expanded, Going, on, found, over, Growth, above, goingOn, taken, ticketOf, ticket, grow}
+use Rattle.model.specs.Tree.{Tree, Node, node, closedAt, evaluationOf, evaluation, precedes, pick, leastOf, least, popped, close, expanded, Going, on, found, over, Growth, above, goingOn, taken, ticketOf, ticket, grow}
 use Rattle.model.specs.Sound.{Sound}
 use Rattle.model.specs.Search.{closedCount, lookup, Turn, findOf, under, grown, turnBy, turn}
-use Rattle.model.specs.Reference.{orderingOf, orCompare, topWhen, topOf, top, rejects, statusOfWord, sameLen, lookUnless, Growing, pastBound, closing, endTicket, expandTop, closeTop, popTop, iterate, growTree, peeks, TurnEnd, exhaustedUnless, grownEnd, turnEnd, readKnown, readSolution}
+use Rattle.model.specs.Reference.{costOf, orderingOf, orCompare, topWhen, topOf, top, rejects, statusOfWord, sameLen, lookUnless, Growing, pastBound, closing, endTicket, expandTop, closeTop, popTop, iterate, growTree, peeks, TurnEnd, exhaustedUnless, grownEnd, turnEnd, readKnown, readSolution}
 use Rattle.model.proofs.Lists.{Least, least-is}
+use Rattle.model.proofs.Worth.{evaluation-cost}
 use Rattle.model.proofs.Least.{node-inside}
 use Rattle.model.proofs.Grow.{popped-sound, expanded-sound}
 use Rattle.model.proofs.Later.{ticket-cases}
 use Rattle.model.proofs.Recorded.{knownAfter}
-use Rattle.model.proofs.Refines.{row-is, look-is}
+use Rattle.model.proofs.Refines.{rejects-is, row-is, look-is}
 
 abbrev pub readBound : CostBound → Option ℕ
 readBound Unbounded = none
@@ -94,16 +95,17 @@ module _ (d : Domain) (gs : List ℕ) (b : CostBound) (acc : Accepted (d .graph)
     unfolding expandTop taken popped expanded close
     expand-is n m =
         let x : Node = node (t .nodes) n in
-        ap₂ (λ (o : Bool) (u : Tree). endTicket (mem (x .vertex) gs) o u n) (past-is b (x .cost))
-        (row-is d n (x .cost) (closing (popped t n) (x .vertex) n) (x .vertex) (node-inside d acc t ok n (ok .queue n m)))
-        ∙ end-is (mem (x .vertex) gs) (above (x .cost) b) (expanded d (popped t n) n) (suc k) n
+        ap₂ (λ (o : Bool) (u : Tree). endTicket (mem (x .vertex) gs) o u n) (past-is b (costOf x) ∙ ap (λ (k : ℕ). above k b) (sym (evaluation-cost x)))
+        (row-is d n x (closing (popped t n) (x .vertex) n) (x .vertex) (node-inside d acc t ok n (ok .queue n m)))
+        ∙ end-is (mem (x .vertex) gs) (above (evaluationOf x) b) (expanded d (popped t n) n) (suc k) n
 
     -- a ticket for a closed vertex costs no less than the node that closed it
     close-is : (n : ℕ) → List·Memᴰ n (t .waiting) → (w : ℕ) → closedAt (t .closed) ((node (t .nodes) n) .vertex) ≡ w
         → closeTop d gs (readBound b) (popped t n) n (rejects (t .nodes) (node (t .nodes) n) (statusOfWord w)) ≡ readGrowth (taken d gs b t k n (not (eqb w 0)))
     unfolding closeTop taken
     close-is n m zero e = expand-is n m
-    close-is n m (suc i) e = rw (eqb·suc-zero i, le-leb ((node (t .nodes) i) .cost) ((node (t .nodes) n) .cost) (ok .cheapest _ i n e m))
+    close-is n m (suc i) e =
+        rw (eqb·suc-zero i, rejects-is (t .nodes) (node (t .nodes) n) (suc i), le-leb (evaluation (t .nodes) i) (evaluation (t .nodes) n) (ok .cheapest _ i n e m))
 
     pop-is : (o : Option ℕ) → least (t .nodes) (t .waiting) ≡ o → popTop d gs (readBound b) t o ≡ readGrowth (ticketOf d gs b t k o)
     unfolding popTop ticketOf

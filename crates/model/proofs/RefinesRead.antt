@@ -16,6 +16,7 @@ use Rattle.model.specs.declared.BestSolution.{BestSolution}
 use Rattle.model.specs.declared.BestSolution.the-variants.{NoBest, Best}
 use Rattle.model.specs.declared.Search.{Search}
 use Rattle.model.specs.Graph.{Domain, Accepted}
+use Rattle.model.specs.Worth.{solutionCostOf}
 use Rattle.model.specs.Tree.{Tree, Node, Going, on, found, over, Growth, grow}
 use Rattle.model.specs.Sound.{tree, Sound, SoundTrees}
 use Rattle.model.specs.Search.{blank, entry, entries, goals, closedCount, lookup, lookupIf, remembers, findOf, turnBy, turn}
@@ -114,7 +115,7 @@ module _ (d : Domain) (ts ts′ : List Tree) (ok : SoundTrees d ts) (l : AllLate
       go NoBest e = refl
       go (Best i n) e =
           let k = r .best i n e in
-          ap (λ (x : Node). some (record { entry = i; cost = x .cost })) (l .each ((entry s i) .tree) (r .slots i (k .0)) .keeps n (k .1))
+          ap (λ (x : Node). some (record { entry = i; cost = solutionCostOf d x })) (l .each ((entry s i) .tree) (r .slots i (k .0)) .keeps n (k .1))
 
   pub read-later : readMemory d ts′ s ≡ readMemory d ts s
   unfolding readMemory

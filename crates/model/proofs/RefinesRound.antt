@@ -24,6 +24,7 @@ use Rattle.model.specs.Tree.{Tree, Node, node}
 use Rattle.model.specs.Sound.{noTree, tree, Sound, SoundTrees}
 use Rattle.model.specs.Search.{blank, entry, entries, goals, closedCount, dearer, cheaper, bestIf, boundOf, bound, solutionCost, Turn, turn, Walk, round, rounds}
 use Rattle.model.specs.Reference.{Path, TreeEntry, noEntry, Memory, get, put, orNoTree, retraceNode, costBound, TurnEnd, turnEnd, sameLen, lookUnless, exhaustedUnless, priorCheaper, bestWhen, bestAfter, bestUnless, bestTurn, solutionUnless, solutionTurn, Stepping, turnOf, turnsOf, readKnown, readSolution, readEntry, readBest, readMemory}
+use Rattle.model.proofs.Worth.{solution-costs}
 use Rattle.model.proofs.Later.{Later}
 use Rattle.model.proofs.Turns.{hold-from}
 use Rattle.model.proofs.Recorded as recorded
@@ -37,9 +38,13 @@ use Rattle.model.proofs.RefinesRead.{Readable, find-in, solution-later,
 -- ---- what is held after a find
 
 module _ (d : Domain) (ns : List Node) where
+  -- a path costs what its node is worth
+  retraced : (n : ℕ) → (retraceNode ns n) .totalCost ≡ solutionCost d ns n
+  retraced n = retrace-cost ns n ∙ sym (solution-costs d (node ns n))
+
   dearer-is : (n : ℕ) (h : Solution) → priorCheaper (readSolution ns h) (retraceNode ns n) ≡ dearer d ns n h
   dearer-is n Unsolved = refl
-  dearer-is n (At m) = ap₂ ltb (retrace-cost ns m) (retrace-cost ns n)
+  dearer-is n (At m) = ap₂ ltb (retraced m) (retraced n)
 
   hold-is : (h f : Solution) → solutionTurn (readSolution ns h) (readSolution ns f) ≡ readSolution ns (hold d ns h f)
   hold-is h Unsolved = refl
@@ -211,7 +216,7 @@ module _ (d : Domain) (acc : Accepted (d .graph)) (ts : List Tree) (s : Search) 
       go NoBest = refl
       go (Best j n) = ap (λ (x : ℕ). some (record { entry = j; cost = solutionCost d (tree ts′ x .nodes) n })) (slot-now j)
 
-  best-new : (n : ℕ) → readBest d ts′ s′ (Best i n) ≡ some (record { entry = i; cost = (node ns′ n) .cost })
+  best-new : (n : ℕ) → readBest d ts′ s′ (Best i n) ≡ some (record { entry = i; cost = solutionCost d ns′ n })
   best-new n =
       ap (λ (x : ℕ). some (record { entry = i; cost = solutionCost d (tree ts′ x .nodes) n })) (slot-now i)
       ∙ ap (λ (x : Tree). some (record { entry = i; cost = solutionCost d (x .nodes) n })) now
@@ -221,11 +226,11 @@ module _ (d : Domain) (acc : Accepted (d .graph)) (ts : List Tree) (s : Search) 
       ap (λ (p : Option Path). bestTurn p (readSolution ns′ (u .find)) (readBest d ts s (s .«best_solution»)) i) prior-is ∙ go (s .«best_solution») refl (u .find)
     where
       at : (o : BestSolution) → s .«best_solution» ≡ o → (n : ℕ)
-          → bestAfter (readBest d ts s o) i ((node ns′ n) .cost) ≡ readBest d ts′ s′ (bestIf (cheaper ((node ns′ n) .cost) (boundOf d ts s o)) o i n)
+          → bestAfter (readBest d ts s o) i (solutionCost d ns′ n) ≡ readBest d ts′ s′ (bestIf (cheaper (solutionCost d ns′ n) (boundOf d ts s o)) o i n)
       at NoBest z n = sym (best-new n)
-      at (Best j m) z n = pick (ltb ((node ns′ n) .cost) (solutionCost d (tree ts ((entry s j) .tree) .nodes) m))
+      at (Best j m) z n = pick (ltb (solutionCost d ns′ n) (solutionCost d (tree ts ((entry s j) .tree) .nodes) m))
         where
-          pick : (q : Bool) → bestWhen q i ((node ns′ n) .cost) (record { entry = j; cost = solutionCost d (tree ts ((entry s j) .tree) .nodes) m }) ≡ readBest d ts′ s′ (bestIf q (Best j m) i n)
+          pick : (q : Bool) → bestWhen q i (solutionCost d ns′ n) (record { entry = j; cost = solutionCost d (tree ts ((entry s j) .tree) .nodes) m }) ≡ readBest d ts′ s′ (bestIf q (Best j m) i n)
           pick true = sym (best-new n)
           pick false = sym (subst (λ (o : BestSolution). readBest d ts′ s′ o ≡ readBest d ts s o) z best-kept)
 
@@ -234,9 +239,9 @@ module _ (d : Domain) (acc : Accepted (d .graph)) (ts : List Tree) (s : Search) 
       go o z Unsolved = sym (subst (λ (o : BestSolution). readBest d ts′ s′ o ≡ readBest d ts s o) z best-kept)
       go o z (At n) = ap (λ (q : Bool). bestUnless q (readBest d ts s o) i (retraceNode ns′ n)) (dearer-is d ns′ n (e .solution)) ∙ unless (dearer d ns′ n (e .solution))
         where
-          unless : (q : Bool) → bestUnless q (readBest d ts s o) i (retraceNode ns′ n) ≡ readBest d ts′ s′ (bestBy q (cheaper ((node ns′ n) .cost) (boundOf d ts s o)) o i n)
+          unless : (q : Bool) → bestUnless q (readBest d ts s o) i (retraceNode ns′ n) ≡ readBest d ts′ s′ (bestBy q (cheaper (solutionCost d ns′ n) (boundOf d ts s o)) o i n)
           unless true = sym (subst (λ (o : BestSolution). readBest d ts′ s′ o ≡ readBest d ts s o) z best-kept)
-          unless false = ap (bestAfter (readBest d ts s o) i) (retrace-cost ns′ n) ∙ at o z n
+          unless false = ap (bestAfter (readBest d ts s o) i) (retraced d ns′ n) ∙ at o z n
 
   ends-is : turnEnds d (readMemory d ts s) (readEntry ts e) t ≡ readTurn (e .«last_known_closed_len») u (s .exhausted)
   unfolding readMemory readEntry

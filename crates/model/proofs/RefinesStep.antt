@@ -22,7 +22,7 @@ use Rattle.model.specs.Sound.{tree, Sound, SoundTrees}
 use Rattle.model.specs.Search.{entry, goals, withExhausted, Walk, rounds, walk}
 use Rattle.model.specs.Valid.{valid}
 use Rattle.model.specs.Calls.{Cache, withTrees, orElse, firstFault, initializeFaults, initializeBy, shownBy, shown, shownTreeBy, shownTree, statusAt, finalStatus, stepIf, stepBy, step, AfterStep, isBest, solvedAlready, retrace}
-use Rattle.model.specs.Demands.{Call, initializing, stepping, retracing, after}
+use Rattle.model.specs.Demands.{initializing, stepping, after}
 use Rattle.model.specs.Reference.{Path, BestCost, Memory, TreeEntry, retraceNode, turnsOf, Stepping, Answered, SearchStatus, Incomplete, Solved, Impossible, inChart, solvedBy, finished, stepWhen, readEntry, readSolution, readBest, readMemory, treesWhen, replyOf, pathWords, shownIf, shownOf, pathStatus}
 use Rattle.model.specs.Reference as reference
 use Rattle.model.proofs.Faults.{step-if, shownWith, retraceAs, retrace-as, retrace-shown}
@@ -202,17 +202,19 @@ module _ (c : Cache) (acc : Accepted (c .domain .graph)) (ok : SoundTrees (c .do
         go true e = ending-is e p (end-of (c .domain) acc (c .trees) s ok fine e)
         go false e = unsolved-is p (ap (λ (x : Bool). x && isBest (s .«best_solution»)) e)
 
-  -- ---- any call
+  -- ---- the trees that an opening and a step leave
 
-  pub after-is : (x : Call) → reference.after c x ≡ after c x
+  pub initialize-leaves : (ss gs : List ℕ) → reference.after c (initializing ss gs) ≡ after c (initializing ss gs)
   unfolding reference.after after
-  after-is (retracing s p) = refl
-  after-is (initializing ss gs) = go (firstFault (initializeFaults c ss gs))
+  initialize-leaves ss gs = go (firstFault (initializeFaults c ss gs))
     where
       go : (o : Option ℕ) → withTrees c (treesWhen o ((reference.initialize (c .domain) (c .trees) ss gs) .trees) (c .trees)) ≡ (initializeBy o c ss gs) .cache
       go (some n) = refl
       go none = ap (λ (r : reference.Opened). withTrees c (r .trees)) (initialize-is (c .domain) (c .trees) ok ss gs)
-  after-is (stepping s) = go (valid (c .domain) (c .trees) s) refl
+
+  pub step-leaves : (s : Search) → reference.after c (stepping s) ≡ after c (stepping s)
+  unfolding reference.after after
+  step-leaves s = go (valid (c .domain) (c .trees) s) refl
     where
       left : List Tree
       left = (reference.step (c .domain) (c .trees) (readMemory (c .domain) (c .trees) s)) .trees

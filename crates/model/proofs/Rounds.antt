@@ -20,10 +20,12 @@ use Rattle.model.specs.declared.BestSolution.the-variants.{NoBest, Best}
 use Rattle.model.specs.declared.TreeMemory.{TreeMemory}
 use Rattle.model.specs.declared.Search.{Search}
 use Rattle.model.specs.Lists.{mem, allBelow}
-use Rattle.model.specs.Graph.{Domain, Accepted, Leads, total, vertexCount, initialCost}
-use Rattle.model.specs.Tree.{Tree, Node, node, evaluation}
+use Rattle.model.specs.Graph.{Domain, Accepted, Leads, vertexCount}
+use Rattle.model.specs.Worth.{Node, node, solutionCostOf, solutionCost}
+use Rattle.model.specs.Tree.{Tree}
 use Rattle.model.specs.Sound.{tree, noTree, SoundTrees}
 use Rattle.model.specs.Search.{blank, entry, goals, withExhausted, dearer, cheaper, bestIf, boundOf, bound, Turn, turn, Walk, round, rounds, walk}
+use Rattle.model.proofs.Worth.{pathWorth}
 use Rattle.model.proofs.Turns.{Upto, unsolved-at, hold-held, hold-from, Holds, holds-later, Known, known-later, Under, under-le, Turned, turned}
 use Rattle.model.specs.Reference.{exhaustedUnless}
 use Rattle.model.proofs.Recorded.{bestBy, bestAfter, hold, holdIf, entryAfter, after, slot-kept, turnIn, roundAfter, round-after}
@@ -32,23 +34,23 @@ use Rattle.model.proofs.Keeps.{AllLater, all-refl, all-trans, Keeps, se
 -- ---- what a search's own record keeps
 
 -- e is good for the trees ts, the goals gs and the bound b; O holds of the slots of the search's own trees
-pub record EntryOk (O : ℕ → Type 0) (gs : List ℕ) (ts : List Tree) (b : CostBound) (e : TreeMemory) : Type 0 where
+pub record EntryOk (O : ℕ → Type 0) (d : Domain) (gs : List ℕ) (ts : List Tree) (b : CostBound) (e : TreeMemory) : Type 0 where
   pub own : O (e .tree)
   pub inside : e .tree < length ts
-  pub known : Known gs (tree ts (e .tree)) (e .«last_known_closed_len») (e .solution)
-  pub low : (n : ℕ) → e .solution ≡ At n → Under b (evaluation (tree ts (e .tree) .nodes) n)
+  pub known : Known d gs (tree ts (e .tree)) (e .«last_known_closed_len») (e .solution)
+  pub low : (n : ℕ) → e .solution ≡ At n → Under b (solutionCost d (tree ts (e .tree) .nodes) n)
 
 -- the best, at node n of entry i: the entry holds a solution of that cost
-pub record BestOk (gs : List ℕ) (ts : List Tree) (s : Search) (i n : ℕ) : Type 0 where
+pub record BestOk (d : Domain) (gs : List ℕ) (ts : List Tree) (s : Search) (i n : ℕ) : Type 0 where
   pub counted : i < s .«tree_count»
   pub holds : Holds gs (tree ts ((entry s i) .tree)) n
   pub h : ℕ
   pub held : (entry s i) .solution ≡ At h
-  pub level : evaluation (tree ts ((entry s i) .tree) .nodes) h ≡ evaluation (tree ts ((entry s i) .tree) .nodes) n
+  pub level : solutionCost d (tree ts ((entry s i) .tree) .nodes) h ≡ solutionCost d (tree ts ((entry s i) .tree) .nodes) n
 
-abbrev pub BestsOk : List ℕ → List Tree → Search → BestSolution → Type 0
-BestsOk gs ts s NoBest = Unit {0}
-BestsOk gs ts s (Best i n) = BestOk gs ts s i n
+abbrev pub BestsOk : Domain → List ℕ → List Tree → Search → BestSolution → Type 0
+BestsOk d gs ts s NoBest = Unit {0}
+BestsOk d gs ts s (Best i n) = BestOk d gs ts s i n
 
 pub record Ready (O : ℕ → Type 0) (d : Domain) (ts : List Tree) (s : Search) : Type 0 where
   pub arrays : length (s .trees) ≡ 64
@@ -56,8 +58,8 @@ pub record Ready (O : ℕ → Type 0) (d : Domain) (ts : List Tree) (s : Search)
   pub keys : length (s .«goal_keys») ≡ 64
   pub key-counts : s .«goal_count» ≤ 64
   pub below : allBelow (vertexCount (d .graph)) (goals s) ≡ true
-  pub entries : (j : ℕ) → j < s .«tree_count» → EntryOk O (goals s) ts (bound d ts s) (entry s j)
-  pub best : BestsOk (goals s) ts s (s .«best_solution»)
+  pub entries : (j : ℕ) → j < s .«tree_count» → EntryOk O d (goals s) ts (bound d ts s) (entry s j)
+  pub best : BestsOk d (goals s) ts s (s .«best_solution»)
 
 -- ---- in later trees
 
@@ -66,7 +68,7 @@ module _ (O : ℕ → Type 0) (d : Domain) (gs : List ℕ) (ts ts′ : List Tree
   pub same-node : (i n : ℕ) → i < length ts → Holds gs (tree ts i) n → node (tree ts′ i .nodes) n ≡ node (tree ts i .nodes) n
   same-node i n h k = l .each i h .keeps n (ok .each i h .closer _ n (k .closes) .0)
 
-  pub entry-later : (b b′ : CostBound) → ((k : ℕ) → Under b k → Under b′ k) → (e : TreeMemory) → EntryOk O gs ts b e → EntryOk O gs ts′ b′ e
+  pub entry-later : (b b′ : CostBound) → ((k : ℕ) → Under b k → Under b′ k) → (e : TreeMemory) → EntryOk O d gs ts b e → EntryOk O d gs ts′ b′ e
   entry-later b b′ f e k =
       record {
         own = k .own;
@@ -75,7 +77,7 @@ module _ (O : ℕ → Type 0) (d : Domain) (gs : List ℕ) (ts ts′ : List Tree
         low = λ n z. rw (same-node (e .tree) n (k .inside) (k .known .holds n z)) (f _ (k .low n z));
       }
 
-  pub best-later : (s : Search) → ((j : ℕ) → j < s .«tree_count» → (entry s j) .tree < length ts) → (i n : ℕ) → BestOk gs ts s i n → ((m : ℕ) → (entry s i) .solution ≡ At m → Holds gs (tree ts ((entry s i) .tree)) m) → BestOk gs ts′ s i n
+  pub best-later : (s : Search) → ((j : ℕ) → j < s .«tree_count» → (entry s j) .tree < length ts) → (i n : ℕ) → BestOk d gs ts s i n → ((m : ℕ) → (entry s i) .solution ≡ At m → Holds gs (tree ts ((entry s i) .tree)) m) → BestOk d gs ts′ s i n
   best-later s inside i n k f =
       let h = inside i (k .counted) in
       record {
@@ -90,9 +92,9 @@ module _ (O : ℕ → Type 0) (d : Domain) (ts ts′ : List Tree) (ok : SoundTre
   pub bound-later : bound d ts′ s ≡ bound d ts s
   bound-later = go (s .«best_solution») (r .best)
     where
-      go : (x : BestSolution) → BestsOk (goals s) ts s x → boundOf d ts′ s x ≡ boundOf d ts s x
+      go : (x : BestSolution) → BestsOk d (goals s) ts s x → boundOf d ts′ s x ≡ boundOf d ts s x
       go NoBest k = refl
-      go (Best i n) k = ap (λ (x : Node). Bound (x .cost)) (same-node O d (goals s) ts ts′ ok l _ n (r .entries i (k .counted) .inside) (k .holds))
+      go (Best i n) k = ap (λ (x : Node). Bound (solutionCostOf d x)) (same-node O d (goals s) ts ts′ ok l _ n (r .entries i (k .counted) .inside) (k .holds))
 
   pub ready-later : Ready O d ts′ s
   ready-later =
@@ -106,16 +108,16 @@ module _ (O : ℕ → Type 0) (d : Domain) (ts ts′ : List Tree) (ok : SoundTre
         best = go (s .«best_solution») (r .best);
       }
     where
-      go : (x : BestSolution) → BestsOk (goals s) ts s x → BestsOk (goals s) ts′ s x
+      go : (x : BestSolution) → BestsOk d (goals s) ts s x → BestsOk d (goals s) ts′ s x
       go NoBest k = tt
       go (Best i n) k = best-later O d (goals s) ts ts′ ok l s (λ j h. r .entries j h .inside) i n k (r .entries i (k .counted) .known .holds)
 
 -- ---- one round
 
--- every path from the start of the tree in the slot i to a goal costs at least b
+-- every path from the start of the tree in the slot i to a goal is worth at least b
 abbrev pub Covered : Domain → List ℕ → List Tree → CostBound → ℕ → Type 0
 Covered d gs ts b i =
-    (v : ℕ) (ls : List ℕ) → mem v gs ≡ true → Leads (d .graph) (tree ts i .start) ls v → Under b (initialCost d (tree ts i .start) + total (d .graph) ls)
+    (v : ℕ) (ls : List ℕ) → mem v gs ≡ true → Leads (d .graph) (tree ts i .start) ls v → Under b (pathWorth d (tree ts i .start) ls v)
 
 -- tree i gave tickets
 pub record Gave (ts ts′ : List Tree) (i : ℕ) : Type 0 where
@@ -131,14 +133,14 @@ is-cheaper k Unbounded e j u = absurd u
 is-cheaper k (Bound b) e j u = le-of-lt (lt-of-lt-of-le (ltb-true k b e) u)
 
 -- a dearer find is dearer than what is held
-dearer-held : (d : Domain) (ns : List Node) (n : ℕ) (h : Solution) → dearer d ns n h ≡ true → (m : ℕ) × (h ≡ At m) × (evaluation ns m ≤ evaluation ns n)
+dearer-held : (d : Domain) (ns : List Node) (n : ℕ) (h : Solution) → dearer d ns n h ≡ true → (m : ℕ) × (h ≡ At m) × (solutionCost d ns m ≤ solutionCost d ns n)
 dearer-held d ns n Unsolved e = absurd (true≢false (sym e))
 dearer-held d ns n (At m) e = (m, refl, le-of-lt (ltb-true _ _ e))
 
 -- o is a node of cost k, if it names one of at most k and none under k
-held-level : (ns : List Node) (o : Solution) (k : ℕ) → Upto ns o k → ((n : ℕ) → o ≡ At n → k ≤ evaluation ns n) → (n : ℕ) × (o ≡ At n) × (evaluation ns n ≡ k)
-held-level ns Unsolved k u f = absurd u
-held-level ns (At n) k u f = (n, refl, omega (arith, f n refl))
+held-level : (d : Domain) (ns : List Node) (o : Solution) (k : ℕ) → Upto d ns o k → ((n : ℕ) → o ≡ At n → k ≤ solutionCost d ns n) → (n : ℕ) × (o ≡ At n) × (solutionCost d ns n ≡ k)
+held-level d ns Unsolved k u f = absurd u
+held-level d ns (At n) k u f = (n, refl, omega (arith, f n refl))
 
 module _ (O : ℕ → Type 0) (d : Domain) (acc : Accepted (d .graph)) (ts : List Tree) (s : Search) (ok : SoundTrees d ts) (r : Ready O d ts s) (i : ℕ) (hi : i < s .«tree_count») where
   abbrev gs : List ℕ
@@ -165,7 +167,7 @@ module _ (O : ℕ → Type 0) (d : Domain) (acc : Accepted (d .graph)) (ts : Lis
   abbrev b₁ : CostBound
   b₁ = bound d ts₁ s₁
 
-  ke : EntryOk O gs ts b e
+  ke : EntryOk O d gs ts b e
   ke = r .entries i hi
 
   T : Turned d gs b (tree ts (e .tree)) (e .«last_known_closed_len») (e .solution) u
@@ -188,30 +190,30 @@ module _ (O : ℕ → Type 0) (d : Domain) (acc : Accepted (d .graph)) (ts : Lis
   round-slot j = slot-kept d (bound d ts s) s i u j
 
   -- a solution held, in the tree after the turn
-  held-cost : (n : ℕ) → e .solution ≡ At n → evaluation ns n ≡ evaluation (tree ts (e .tree) .nodes) n
-  held-cost n z = ap (λ (x : Node). x .cost) (T .later .keeps n (ok .each (e .tree) (ke .inside) .closer _ n (ke .known .holds n z .closes) .0))
+  held-cost : (n : ℕ) → e .solution ≡ At n → solutionCost d ns n ≡ solutionCost d (tree ts (e .tree) .nodes) n
+  held-cost n z = ap (λ (x : Node). solutionCostOf d x) (T .later .keeps n (ok .each (e .tree) (ke .inside) .closer _ n (ke .known .holds n z .closes) .0))
 
   -- the bound of the best as it was, in the trees as they are
-  old-bound : (x : BestSolution) → BestsOk gs ts s x → boundOf d ts₁ s₁ x ≡ boundOf d ts s x
+  old-bound : (x : BestSolution) → BestsOk d gs ts s x → boundOf d ts₁ s₁ x ≡ boundOf d ts s x
   old-bound NoBest k = refl
   old-bound (Best j n) k =
-      ap (λ (y : ℕ). Bound (evaluation (tree ts₁ y .nodes) n)) (round-slot j)
-      ∙ ap (λ (x : Node). Bound (x .cost)) (same-node O d gs ts ts₁ ok (round-kept .1) _ n (r .entries j (k .counted) .inside) (k .holds))
+      ap (λ (y : ℕ). Bound (solutionCost d (tree ts₁ y .nodes) n)) (round-slot j)
+      ∙ ap (λ (x : Node). Bound (solutionCostOf d x)) (same-node O d gs ts ts₁ ok (round-kept .1) _ n (r .entries j (k .counted) .inside) (k .holds))
 
   -- the best is the old one, and no find is cheaper; or it is the find of this turn
   record Stays : Type 0 where
     best : s₁ .«best_solution» ≡ s .«best_solution»
     bounds : b₁ ≡ b
-    finds : (n : ℕ) → u .find ≡ At n → Under b (evaluation ns n)
+    finds : (n : ℕ) → u .find ≡ At n → Under b (solutionCost d ns n)
 
   record Improves : Type 0 where
     n : ℕ
     find : u .find ≡ At n
     best : s₁ .«best_solution» ≡ Best i n
     holds : hold d ns (e .solution) (u .find) ≡ At n
-    under : (k : ℕ) → Under b k → evaluation ns n ≤ k
+    under : (k : ℕ) → Under b k → solutionCost d ns n ≤ k
 
-  stays : s₁ .«best_solution» ≡ s .«best_solution» → ((n : ℕ) → u .find ≡ At n → Under b (evaluation ns n)) → Stays
+  stays : s₁ .«best_solution» ≡ s .«best_solution» → ((n : ℕ) → u .find ≡ At n → Under b (solutionCost d ns n)) → Stays
   stays z f = record { best = z; bounds = ap (boundOf d ts₁ s₁) z ∙ old-bound (s .«best_solution») (r .best); finds = f }
 
   best-cases : Stays ⊎ Improves
@@ -226,63 +228,63 @@ module _ (O : ℕ → Type 0) (d : Domain) (acc : Accepted (d .graph)) (ts : Lis
       hold-find : (f : Solution) → u .find ≡ f → hold d ns (e .solution) (u .find) ≡ hold d ns (e .solution) f
       hold-find f z = ap (hold d ns (e .solution)) z
 
-      tests : (n : ℕ) → u .find ≡ At n → (p : Bool) → dearer d ns n (e .solution) ≡ p → (q : Bool) → cheaper (evaluation ns n) b ≡ q → Stays ⊎ Improves
+      tests : (n : ℕ) → u .find ≡ At n → (p : Bool) → dearer d ns n (e .solution) ≡ p → (q : Bool) → cheaper (solutionCost d ns n) b ≡ q → Stays ⊎ Improves
       tests n z true p q y =
           let m = dearer-held d ns n (e .solution) p in
-          inl (stays (at-find (At n) z ∙ ap (λ (t : Bool). bestBy t (cheaper (evaluation ns n) b) (s .«best_solution») i n) p)
-          (λ k w. subst (λ (x : ℕ). Under b (evaluation ns x)) (one n k z w) (under-le b _ _ (m .2) (rw (held-cost (m .0) (m .1)) (ke .low (m .0) (m .1))))))
+          inl (stays (at-find (At n) z ∙ ap (λ (t : Bool). bestBy t (cheaper (solutionCost d ns n) b) (s .«best_solution») i n) p)
+          (λ k w. subst (λ (x : ℕ). Under b (solutionCost d ns x)) (one n k z w) (under-le b _ _ (m .2) (rw (held-cost (m .0) (m .1)) (ke .low (m .0) (m .1))))))
       tests n z false p false y =
-          inl (stays (at-find (At n) z ∙ ap (λ (t : Bool). bestBy t (cheaper (evaluation ns n) b) (s .«best_solution») i n) p ∙ ap (λ (t : Bool). bestIf t (s .«best_solution») i n) y)
-          (λ k w. subst (λ (x : ℕ). Under b (evaluation ns x)) (one n k z w) (not-cheaper _ b y)))
+          inl (stays (at-find (At n) z ∙ ap (λ (t : Bool). bestBy t (cheaper (solutionCost d ns n) b) (s .«best_solution») i n) p ∙ ap (λ (t : Bool). bestIf t (s .«best_solution») i n) y)
+          (λ k w. subst (λ (x : ℕ). Under b (solutionCost d ns x)) (one n k z w) (not-cheaper _ b y)))
       tests n z false p true y =
           inr (record {
             n = n;
             find = z;
-            best = at-find (At n) z ∙ ap (λ (t : Bool). bestBy t (cheaper (evaluation ns n) b) (s .«best_solution») i n) p ∙ ap (λ (t : Bool). bestIf t (s .«best_solution») i n) y;
+            best = at-find (At n) z ∙ ap (λ (t : Bool). bestBy t (cheaper (solutionCost d ns n) b) (s .«best_solution») i n) p ∙ ap (λ (t : Bool). bestIf t (s .«best_solution») i n) y;
             holds = hold-find (At n) z ∙ ap (λ (t : Bool). holdIf t (e .solution) n) p;
             under = is-cheaper _ b y;
           })
 
       go : (f : Solution) → u .find ≡ f → Stays ⊎ Improves
       go Unsolved z = inl (stays (at-find Unsolved z) (λ n y. absurd (unsolved-at n (sym z ∙ y))))
-      go (At n) z = tests n z (dearer d ns n (e .solution)) refl (cheaper (evaluation ns n) b) refl
+      go (At n) z = tests n z (dearer d ns n (e .solution)) refl (cheaper (solutionCost d ns n) b) refl
 
-  improved-bound : (x : Improves) → b₁ ≡ Bound (evaluation ns (x .n))
+  improved-bound : (x : Improves) → b₁ ≡ Bound (solutionCost d ns (x .n))
   improved-bound x =
-      ap (boundOf d ts₁ s₁) (x .best) ∙ ap (λ (y : ℕ). Bound (evaluation (tree ts₁ y .nodes) (x .n))) (round-slot i) ∙ ap (λ (t : Tree). Bound (evaluation (t .nodes) (x .n))) at
+      ap (boundOf d ts₁ s₁) (x .best) ∙ ap (λ (y : ℕ). Bound (solutionCost d (tree ts₁ y .nodes) (x .n))) (round-slot i) ∙ ap (λ (t : Tree). Bound (solutionCost d (t .nodes) (x .n))) at
 
   pub round-lower : (k : ℕ) → Under b k → Under b₁ k
   round-lower k a = elim best-cases [ inl x ↦ rw (x .bounds) a | inr x ↦ subst (λ (y : CostBound). Under y k) (sym (improved-bound x)) (x .under k a) ]
 
-  find-low : (n : ℕ) → u .find ≡ At n → Under b₁ (evaluation ns n)
+  find-low : (n : ℕ) → u .find ≡ At n → Under b₁ (solutionCost d ns n)
   find-low n z = elim best-cases [
     | inl x ↦ rw (x .bounds) (x .finds n z)
-    | inr x ↦ subst (λ (y : CostBound). Under y (evaluation ns n)) (sym (improved-bound x)) (let q : x .n ≡ n = one (x .find) z in rw q (omega arith))
+    | inr x ↦ subst (λ (y : CostBound). Under y (solutionCost d ns n)) (sym (improved-bound x)) (let q : x .n ≡ n = one (x .find) z in rw q (omega arith))
   ]
     where
       one : {a c : ℕ} → u .find ≡ At a → u .find ≡ At c → a ≡ c
       one y w = cc
 
-  low-now : (n : ℕ) → hold d ns (e .solution) (u .find) ≡ At n → Under b₁ (evaluation ns n)
+  low-now : (n : ℕ) → hold d ns (e .solution) (u .find) ≡ At n → Under b₁ (solutionCost d ns n)
   low-now n z = elim (hold-from d ns (e .solution) (u .find) n z) [ inl y ↦ round-lower _ (rw (held-cost n y) (ke .low n y)) | inr y ↦ find-low n y ]
 
-  entry-ok : EntryOk O gs ts₁ b₁ (entryAfter d e u)
+  entry-ok : EntryOk O d gs ts₁ b₁ (entryAfter d e u)
   entry-ok =
       record {
         own = ke .own;
         inside = omega (arith, ke .inside, length-set ts (e .tree) (u .tree));
-        known = subst (λ (t : Tree). Known gs t (entryAfter d e u .«last_known_closed_len») (hold d ns (e .solution) (u .find))) (sym at) (T .known);
-        low = λ n z. subst (λ (t : Tree). Under b₁ (evaluation (t .nodes) n)) (sym at) (low-now n z);
+        known = subst (λ (t : Tree). Known d gs t (entryAfter d e u .«last_known_closed_len») (hold d ns (e .solution) (u .find))) (sym at) (T .known);
+        low = λ n z. subst (λ (t : Tree). Under b₁ (solutionCost d (t .nodes) n)) (sym at) (low-now n z);
       }
 
-  entries-ok : (j : ℕ) → j < s .«tree_count» → EntryOk O gs ts₁ b₁ (entry s₁ j)
+  entries-ok : (j : ℕ) → j < s .«tree_count» → EntryOk O d gs ts₁ b₁ (entry s₁ j)
   entries-ok j h = elim (ℕ-discrete j i) [
     | yes z ↦ rw (z, entry-i) entry-ok
     | no z ↦ rw (entry-j j z) (entry-later O d gs ts ts₁ ok (round-kept .1) b b₁ round-lower (entry s j) (r .entries j h))
   ]
 
   -- the entry of the best as it was still holds a solution of its cost
-  best-kept : (j n : ℕ) → b₁ ≡ b → b ≡ Bound (evaluation (tree ts ((entry s j) .tree) .nodes) n) → BestOk gs ts s j n → BestOk gs ts₁ s₁ j n
+  best-kept : (j n : ℕ) → b₁ ≡ b → b ≡ Bound (solutionCost d (tree ts ((entry s j) .tree) .nodes) n) → BestOk d gs ts s j n → BestOk d gs ts₁ s₁ j n
   best-kept j n same is k = elim (ℕ-discrete j i) [ yes z ↦ here z | no z ↦ there z ]
     where
       inside : (entry s j) .tree < length ts
@@ -291,10 +293,10 @@ module _ (O : ℕ → Type 0) (d : Domain) (acc : Accepted (d .graph)) (ts : Lis
       holds : Holds gs (tree ts₁ ((entry s₁ j) .tree)) n
       holds = rw (round-slot j) (holds-later gs (tree ts ((entry s j) .tree)) (tree ts₁ ((entry s j) .tree)) n (ok .each _ inside) (round-kept .1 .each _ inside) (k .holds))
 
-      now : (m : ℕ) → Holds gs (tree ts ((entry s j) .tree)) m → evaluation (tree ts₁ ((entry s j) .tree) .nodes) m ≡ evaluation (tree ts ((entry s j) .tree) .nodes) m
-      now m x = ap (λ (y : Node). y .cost) (same-node O d gs ts ts₁ ok (round-kept .1) _ m inside x)
+      now : (m : ℕ) → Holds gs (tree ts ((entry s j) .tree)) m → solutionCost d (tree ts₁ ((entry s j) .tree) .nodes) m ≡ solutionCost d (tree ts ((entry s j) .tree) .nodes) m
+      now m x = ap (λ (y : Node). solutionCostOf d y) (same-node O d gs ts ts₁ ok (round-kept .1) _ m inside x)
 
-      there : j ≢ i → BestOk gs ts₁ s₁ j n
+      there : j ≢ i → BestOk d gs ts₁ s₁ j n
       there z =
           record {
             counted = k .counted;
@@ -304,33 +306,33 @@ module _ (O : ℕ → Type 0) (d : Domain) (acc : Accepted (d .graph)) (ts : Lis
             level = rw (round-slot j) (now (k .h) (r .entries j (k .counted) .known .holds (k .h) (k .held)) ∙ k .level ∙ sym (now n (k .holds)));
           }
 
-      here : j ≡ i → BestOk gs ts₁ s₁ j n
+      here : j ≡ i → BestOk d gs ts₁ s₁ j n
       here z =
-          let cost-n : evaluation ns n ≡ evaluation (tree ts ((entry s j) .tree) .nodes) n = ap (λ (t : Tree). evaluation (t .nodes) n) (sym at) ∙ ap (λ (y : ℕ). evaluation (tree ts₁ ((entry s y) .tree) .nodes) n) (sym z) ∙ now n (k .holds) in
+          let cost-n : solutionCost d ns n ≡ solutionCost d (tree ts ((entry s j) .tree) .nodes) n = ap (λ (t : Tree). solutionCost d (t .nodes) n) (sym at) ∙ ap (λ (y : ℕ). solutionCost d (tree ts₁ ((entry s y) .tree) .nodes) n) (sym z) ∙ now n (k .holds) in
           let held′ : e .solution ≡ At (k .h) = ap (λ (y : ℕ). (entry s y) .solution) (sym z) ∙ k .held in
-          let cost-h : evaluation ns (k .h) ≡ evaluation ns n = held-cost (k .h) held′ ∙ ap (λ (y : ℕ). evaluation (tree ts ((entry s y) .tree) .nodes) (k .h)) (sym z) ∙ k .level ∙ sym cost-n in
-          let up : Upto ns (e .solution) (evaluation ns n) = subst (λ (o : Solution). Upto ns o (evaluation ns n)) (sym held′) (omega (arith, cost-h)) in
-          let m = held-level ns (hold d ns (e .solution) (u .find)) (evaluation ns n) (hold-held d ns (e .solution) (u .find) _ up)
-          (λ m w. subst (λ (y : CostBound). Under y (evaluation ns m)) (same ∙ is ∙ ap Bound (sym cost-n)) (low-now m w)) in
+          let cost-h : solutionCost d ns (k .h) ≡ solutionCost d ns n = held-cost (k .h) held′ ∙ ap (λ (y : ℕ). solutionCost d (tree ts ((entry s y) .tree) .nodes) (k .h)) (sym z) ∙ k .level ∙ sym cost-n in
+          let up : Upto d ns (e .solution) (solutionCost d ns n) = subst (λ (o : Solution). Upto d ns o (solutionCost d ns n)) (sym held′) (omega (arith, cost-h)) in
+          let m = held-level d ns (hold d ns (e .solution) (u .find)) (solutionCost d ns n) (hold-held d ns (e .solution) (u .find) _ up)
+          (λ m w. subst (λ (y : CostBound). Under y (solutionCost d ns m)) (same ∙ is ∙ ap Bound (sym cost-n)) (low-now m w)) in
           record {
             counted = k .counted;
             holds = holds;
             h = m .0;
             held = ap (λ (y : ℕ). (entry s₁ y) .solution) z ∙ ap (λ (x : TreeMemory). x .solution) entry-i ∙ m .1;
-            level = subst (λ (t : Tree). evaluation (t .nodes) (m .0) ≡ evaluation (t .nodes) n) (sym at ∙ ap (λ (y : ℕ). tree ts₁ y) (ap (λ (y : ℕ). (entry s y) .tree) (sym z) ∙ sym (round-slot j))) (m .2);
+            level = subst (λ (t : Tree). solutionCost d (t .nodes) (m .0) ≡ solutionCost d (t .nodes) n) (sym at ∙ ap (λ (y : ℕ). tree ts₁ y) (ap (λ (y : ℕ). (entry s y) .tree) (sym z) ∙ sym (round-slot j))) (m .2);
           }
 
-  best-ok : BestsOk gs ts₁ s₁ (s₁ .«best_solution»)
+  best-ok : BestsOk d gs ts₁ s₁ (s₁ .«best_solution»)
   best-ok = elim best-cases [
-    | inl x ↦ subst (BestsOk gs ts₁ s₁) (sym (x .best)) (old (x .bounds) (s .«best_solution») refl (r .best))
-    | inr x ↦ subst (BestsOk gs ts₁ s₁) (sym (x .best)) (new x)
+    | inl x ↦ subst (BestsOk d gs ts₁ s₁) (sym (x .best)) (old (x .bounds) (s .«best_solution») refl (r .best))
+    | inr x ↦ subst (BestsOk d gs ts₁ s₁) (sym (x .best)) (new x)
   ]
     where
-      old : b₁ ≡ b → (x : BestSolution) → s .«best_solution» ≡ x → BestsOk gs ts s x → BestsOk gs ts₁ s₁ x
+      old : b₁ ≡ b → (x : BestSolution) → s .«best_solution» ≡ x → BestsOk d gs ts s x → BestsOk d gs ts₁ s₁ x
       old same NoBest z k = tt
       old same (Best j n) z k = best-kept j n same (ap (boundOf d ts s) z) k
 
-      new : (x : Improves) → BestOk gs ts₁ s₁ i (x .n)
+      new : (x : Improves) → BestOk d gs ts₁ s₁ i (x .n)
       new x =
           record {
             counted = hi;
@@ -352,7 +354,7 @@ module _ (O : ℕ → Type 0) (d : Domain) (acc : Accepted (d .graph)) (ts : Lis
         best = best-ok;
       }
 
-  upto-low : (o : Solution) (k : ℕ) → ((n : ℕ) → o ≡ At n → Under b₁ (evaluation ns n)) → Upto ns o k → Under b₁ k
+  upto-low : (o : Solution) (k : ℕ) → ((n : ℕ) → o ≡ At n → Under b₁ (solutionCost d ns n)) → Upto d ns o k → Under b₁ k
   upto-low Unsolved k f a = absurd a
   upto-low (At n) k f a = under-le b₁ _ k a (f n refl)
 
@@ -412,7 +414,7 @@ module _ (O : ℕ → Type 0) (d : Domain) (acc : Accepted (d .graph)) (ts : Lis
     cover-first : (j : ℕ) (b : CostBound) → j < s .«tree_count» → Covered d (goals now) (w .trees) b ((entry now j) .tree) → Covered d (goals s) ts b ((entry s j) .tree)
     cover-first j b h f v ls p l =
         let f′ : Covered d (goals s) (w .trees) b ((entry s j) .tree) = subst (λ (x : ℕ). Covered d (goals s) (w .trees) b x) (k .slots j) (subst (λ (x : List ℕ). Covered d x (w .trees) b ((entry now j) .tree)) (k .same) f) in
-        subst (λ (x : ℕ). Under b (initialCost d x + total (d .graph) ls)) (start-is j h) (f′ v ls p (subst (λ (x : ℕ). Leads (d .graph) x ls v) (sym (start-is j h)) l))
+        subst (λ (x : ℕ). Under b (pathWorth d x ls v)) (start-is j h) (f′ v ls p (subst (λ (x : ℕ). Leads (d .graph) x ls v) (sym (start-is j h)) l))
 
     cover-old : (j : ℕ) → w .search .exhausted ≡ true → j < i → Covered d (goals s) ts (bound d (next .trees) (next .search)) ((entry s j) .tree)
     cover-old j x h v ls p l = round-lower O d acc (w .trees) now (k .sound) (k .ready) i here _ (k .covers x j h v ls p l)
@@ -461,7 +463,7 @@ module _ (O : ℕ → Type 0) (d : Domain) (acc : Accepted (d .graph)) (ts : Lis
       (record {
         sound = ok;
         later = all-refl ts;
-        ready = record { arrays = r .arrays; counts = r .counts; keys = r .keys; key-counts = r .key-counts; below = r .below; entries = λ j h. subst (λ (b : CostBound). EntryOk O (goals s) ts b (entry s j)) (sym (mark (s .«best_solution»))) (r .entries j h); best = first (s .«best_solution») (r .best) };
+        ready = record { arrays = r .arrays; counts = r .counts; keys = r .keys; key-counts = r .key-counts; below = r .below; entries = λ j h. subst (λ (b : CostBound). EntryOk O d (goals s) ts b (entry s j)) (sym (mark (s .«best_solution»))) (r .entries j h); best = first (s .«best_solution») (r .best) };
         count = refl;
         same = refl;
         slots = λ j. refl;
@@ -473,6 +475,6 @@ module _ (O : ℕ → Type 0) (d : Domain) (acc : Accepted (d .graph)) (ts : Lis
       mark NoBest = refl
       mark (Best i n) = refl
 
-      first : (x : BestSolution) → BestsOk (goals s) ts s x → BestsOk (goals s) ts (withExhausted s true) x
+      first : (x : BestSolution) → BestsOk d (goals s) ts s x → BestsOk d (goals s) ts (withExhausted s true) x
       first NoBest k = tt
       first (Best i n) k = record { counted = k .counted; holds = k .holds; h = k .h; held = k .held; level = k .level }

@@ -23,12 +23,12 @@ use Rattle.model.specs.Lists.{allb, allBelow}
 use Rattle.model.specs.Graph.{Domain, vertexCount}
 use Rattle.model.specs.Tree.{Tree}
 use Rattle.model.specs.Search.{blank, entry, entries, goals, solutionCost, boundOf, bound}
-use Rattle.model.specs.Valid.{listTests, knownWithin, solutionCloses, entryTests, everyb, bestTests, bestCloses, heldCost, pickCost, lesser, leastHeld, sameCost, bestHeld, validTests, valid}
+use Rattle.model.specs.Valid.{listTests, knownWithin, solutionCloses, entryTests, bestTests, bestCloses, heldCost, pickCost, lesser, leastHeld, sameCost, bestHeld, validTests, valid}
 use Rattle.model.specs.Strange.{ClosesGoal, treeOf, runCost, HoldsRun, LeastHeld, NotStrange, StrangeExactly}
 use Rattle.model.proofs.Lists.{mem-listed, listed-mem}
 use Rattle.model.proofs.Bools.{true-and, all-true, true-given, all-below}
 use Rattle.model.proofs.Turns.{Holds}
-use Rattle.model.proofs.Valid.{every-at, at-every, entries-length, entries-at, at-holds, valid-at, Low, heldBy, least-some, least-none}
+use Rattle.model.proofs.Valid.{at-every, entries-length, entries-at, every-entry, at-entries, at-holds, valid-at, Low, heldBy, least-some, least-none}
 
 -- ---- the parts of a record
 
@@ -126,15 +126,6 @@ module _ (d : Domain) (ts : List Tree) where
   unsolved t (At n) f = absurd (f n refl)
 
   module _ (s : Search) (fits : s .«tree_count» ≤ length (s .trees)) where
-    -- the entries, each at its place
-    every-entry : (p : TreeMemory → Bool) → everyb p (entries s) ≡ true → (i : ℕ) → i < s .«tree_count» → p (entry s i) ≡ true
-    every-entry p e i h = subst (λ (x : TreeMemory). p x ≡ true) (entries-at s fits i h) (every-at p (entries s) e i (omega (arith, entries-length s fits)))
-
-    at-entries : (P : TreeMemory → Type 0) → ((i : ℕ) → i < s .«tree_count» → P (entry s i)) → (i : ℕ) → i < length (entries s) → P (getD (entries s) i blank)
-    at-entries P f i h =
-        let j : i < s .«tree_count» = omega (arith, entries-length s fits) in
-        subst P (sym (entries-at s fits i j)) (f i j)
-
     low-run : (k : ℕ) → Low k (leastHeld d ts (entries s)) → (i n : ℕ) → HoldsRun s i n → k ≤ runCost d ts s i n
     low-run k q i n h =
         subst (λ (o : Solution). Low k (heldCost d (treeOf ts s i) o)) (h .held)
@@ -159,14 +150,14 @@ module _ (d : Domain) (ts : List Tree) where
     at-least : (k : ℕ) → LeastHeld d ts s k → leastHeld d ts (entries s) ≡ Bound k
     at-least k h =
         least-some d ts k (entries s)
-        (at-entries (λ e. Low k (heldBy d ts e)) (λ i c. low-held k (treeOf ts s i) ((entry s i) .solution) (λ n z. h .least i n (record { counted = c; held = z }))))
+        (at-entries s fits (λ e. Low k (heldBy d ts e)) (λ i c. low-held k (treeOf ts s i) ((entry s i) .solution) (λ n z. h .least i n (record { counted = c; held = z }))))
         (h .holder) (omega (arith, entries-length s fits, h .holds .counted))
         (ap (heldBy d ts) (entries-at s fits (h .holder) (h .holds .counted)) ∙ ap (heldCost d (treeOf ts s (h .holder))) (h .holds .held) ∙ ap Bound (h .costs))
 
     at-nothing : ((i n : ℕ) → ¬ HoldsRun s i n) → leastHeld d ts (entries s) ≡ Unbounded
     at-nothing f =
         least-none d ts (entries s)
-        (at-entries (λ e. heldBy d ts e ≡ Unbounded) (λ i c. unsolved (treeOf ts s i) ((entry s i) .solution) (λ n z. f i n (record { counted = c; held = z }))))
+        (at-entries s fits (λ e. heldBy d ts e ≡ Unbounded) (λ i c. unsolved (treeOf ts s i) ((entry s i) .solution) (λ n z. f i n (record { counted = c; held = z }))))
 
     at-same : (x : BestSolution) → ((i n : ℕ) → x ≡ Best i n → LeastHeld d ts s (runCost d ts s i n)) → (x ≡ NoBest → (i n : ℕ) → ¬ HoldsRun s i n)
         → sameCost (boundOf d ts s x) (leastHeld d ts (entries s)) ≡ true
@@ -186,7 +177,7 @@ module _ (d : Domain) (ts : List Tree) (s : Search) where
       let same = same-at (bound d ts s) (leastHeld d ts (entries s)) (r .1 .1 .1 .1 .0) in
       record {
         in-use = v .slots;
-        remembers = λ i n h. known-at d _ (all-true (entryTests d ts (goals s) (entry s i)) (every-entry d ts s fits (λ e. allb (entryTests d ts (goals s) e)) (r .1 .1 .0) i h) .1 .0) n;
+        remembers = λ i n h. known-at d _ (all-true (entryTests d ts (goals s) (entry s i)) (every-entry s fits (λ e. allb (entryTests d ts (goals s) e)) (r .1 .1 .0) i h) .1 .0) n;
         entry-list = v .counts;
         goal-list = leb-true _ _ (l .1 .1 .1 .0);
         entry-array = v .arrays;
@@ -207,7 +198,7 @@ module _ (d : Domain) (ts : List Tree) (s : Search) where
       true-given (validTests d ts s)
       (true-given (listTests s) (eq-eqb _ _ (k .entry-array)) (le-leb _ _ (k .entry-list)) (eq-eqb _ _ (k .goal-array)) (le-leb _ _ (k .goal-list)))
       (at-below _ (goals s) (k .wanted))
-      (at-every (λ e. allb (entryTests d ts (goals s) e)) (entries s) (at-entries d ts s fits (λ e. allb (entryTests d ts (goals s) e) ≡ true) entry-passes))
+      (at-every (λ e. allb (entryTests d ts (goals s) e)) (entries s) (at-entries s fits (λ e. allb (entryTests d ts (goals s) e) ≡ true) entry-passes))
       (at-best ts s (s .«best_solution») (λ i n z. (k .best-entry i n z, k .best i n z)))
       (at-same d ts s fits (s .«best_solution») (k .least) (k .none-held))
       (at-finished (s .exhausted) _ (λ x. at-held s (s .«best_solution») (k .finished x)))

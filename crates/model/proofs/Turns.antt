@@ -17,24 +17,25 @@ use Rattle.model.specs.declared.KnownLen.the-variants.{Never, Len}
 use Rattle.model.specs.declared.Solution.{Solution}
 use Rattle.model.specs.declared.Solution.the-variants.{Unsolved, At}
 use Rattle.model.specs.Lists.{mem}
-use Rattle.model.specs.Graph.{Domain, Accepted, Leads, total, initialCost}
+use Rattle.model.specs.Graph.{Domain, Accepted, Leads}
 use Rattle.model.specs.Tree.{Tree, Node, node, closedAt, evaluation, Going, on, found, over, Growth, least, leastOf}
 use Rattle.model.specs.Sound.{Sound}
-use Rattle.model.specs.Search.{closedCount, remembers, chosen, consider, cheapest, lookup, lookupIf, Turn, findOf, under, grown, turnBy, turn, dearer}
+use Rattle.model.specs.Search.{solutionCost, closedCount, remembers, chosen, consider, cheapest, lookup, lookupIf, Turn, findOf, under, grown, turnBy, turn, dearer}
 use Rattle.model.proofs.Recorded.{knownAfter, holdIf, hold}
 use Rattle.model.proofs.Lists.{Least, least-is, before-cost, mem-nil, mem-head, mem-tail, mem-cases}
+use Rattle.model.proofs.Worth.{pathWeight, pathWorth, weight-worth, solution-worth, solution-is}
 use Rattle.model.proofs.Least.{Front, done, later, front-start}
 use Rattle.model.proofs.Later.{Later, later-refl, Gone, Grew, Moved}
 use Rattle.model.proofs.Later as growing
 
--- o names a node of evaluation k or less
-abbrev pub Upto : List Node → Solution → ℕ → Type 0
-Upto ns Unsolved k = ⊥
-Upto ns (At n) k = evaluation ns n ≤ k
+-- o names a solution that is worth k or less
+abbrev pub Upto : Domain → List Node → Solution → ℕ → Type 0
+Upto d ns Unsolved k = ⊥
+Upto d ns (At n) k = solutionCost d ns n ≤ k
 
-pub upto-le : (ns : List Node) (o : Solution) (k j : ℕ) → k ≤ j → Upto ns o k → Upto ns o j
-upto-le ns Unsolved k j h u = u
-upto-le ns (At n) k j h u = omega arith
+pub upto-le : (d : Domain) (ns : List Node) (o : Solution) (k j : ℕ) → k ≤ j → Upto d ns o k → Upto d ns o j
+upto-le d ns Unsolved k j h u = u
+upto-le d ns (At n) k j h u = omega arith
 
 -- an unsolved entry holds no node
 pub unsolved-at : (n : ℕ) → Unsolved ≡ At n → ⊥
@@ -42,44 +43,44 @@ unsolved-at n e = let z : _≡_ {A = ℕ} 0 1 = cc in omega arith
 
 -- ---- the cheapest closed goal
 
-pub record Cheapest (ns : List Node) (cl gs : List ℕ) (o r : Solution) : Type 0 where
+pub record Cheapest (d : Domain) (ns : List Node) (cl gs : List ℕ) (o r : Solution) : Type 0 where
   pub from : (n : ℕ) → r ≡ At n → (o ≡ At n) ⊎ ((v : ℕ) × (mem v gs ≡ true) × (closedAt cl v ≡ suc n))
-  pub start : (j : ℕ) → o ≡ At j → Upto ns r (evaluation ns j)
-  pub each : (x i : ℕ) → mem x gs ≡ true → closedAt cl x ≡ suc i → Upto ns r (evaluation ns i)
+  pub start : (j : ℕ) → o ≡ At j → Upto d ns r (solutionCost d ns j)
+  pub each : (x i : ℕ) → mem x gs ≡ true → closedAt cl x ≡ suc i → Upto d ns r (solutionCost d ns i)
 
 -- one more is considered
-record Considered (ns : List Node) (o : Solution) (k : ℕ) (r : Solution) : Type 0 where
+record Considered (d : Domain) (ns : List Node) (o : Solution) (k : ℕ) (r : Solution) : Type 0 where
   from : (n : ℕ) → r ≡ At n → (o ≡ At n) ⊎ (k ≡ suc n)
-  kept : (j : ℕ) → o ≡ At j → Upto ns r (evaluation ns j)
-  heard : (i : ℕ) → k ≡ suc i → Upto ns r (evaluation ns i)
+  kept : (j : ℕ) → o ≡ At j → Upto d ns r (solutionCost d ns j)
+  heard : (i : ℕ) → k ≡ suc i → Upto d ns r (solutionCost d ns i)
 
-level : (ns : List Node) (i j : ℕ) → i ≡ j → evaluation ns i ≤ evaluation ns j
-level ns i j e = rw e (omega arith)
+level : (d : Domain) (ns : List Node) (i j : ℕ) → i ≡ j → solutionCost d ns i ≤ solutionCost d ns j
+level d ns i j e = rw e (omega arith)
 
-considered : (d : Domain) (ns : List Node) (o : Solution) (k : ℕ) → Considered ns o k (consider d ns o k)
+considered : (d : Domain) (ns : List Node) (o : Solution) (k : ℕ) → Considered d ns o k (consider d ns o k)
 considered d ns Unsolved zero = record { from = λ n e. inl e; kept = λ j e. absurd (unsolved-at j e); heard = λ i e. absurd (omega arith) }
-considered d ns (At j) zero = record { from = λ n e. inl e; kept = λ i e. level ns j i (cc); heard = λ i e. absurd (omega arith) }
-considered d ns Unsolved (suc i) = record { from = λ n e. inr (let q : i ≡ n = cc in ap suc q); kept = λ j e. absurd (unsolved-at j e); heard = λ n e. level ns i n (omega arith) }
-considered d ns (At j) (suc i) = go (ltb (evaluation ns i) (evaluation ns j)) refl
+considered d ns (At j) zero = record { from = λ n e. inl e; kept = λ i e. level d ns j i (cc); heard = λ i e. absurd (omega arith) }
+considered d ns Unsolved (suc i) = record { from = λ n e. inr (let q : i ≡ n = cc in ap suc q); kept = λ j e. absurd (unsolved-at j e); heard = λ n e. level d ns i n (omega arith) }
+considered d ns (At j) (suc i) = go (ltb (solutionCost d ns i) (solutionCost d ns j)) refl
   where
-    go : (b : Bool) → ltb (evaluation ns i) (evaluation ns j) ≡ b → Considered ns (At j) (suc i) (chosen b i j)
+    go : (b : Bool) → ltb (solutionCost d ns i) (solutionCost d ns j) ≡ b → Considered d ns (At j) (suc i) (chosen b i j)
     go true e =
-        let less : evaluation ns i < evaluation ns j = ltb-true _ _ e in
-        record { from = λ n z. inr (let q : i ≡ n = cc in ap suc q); kept = λ n z. le-trans (le-of-lt less) (level ns j n (cc)); heard = λ n z. level ns i n (omega arith) }
+        let less : solutionCost d ns i < solutionCost d ns j = ltb-true _ _ e in
+        record { from = λ n z. inr (let q : i ≡ n = cc in ap suc q); kept = λ n z. le-trans (le-of-lt less) (level d ns j n (cc)); heard = λ n z. level d ns i n (omega arith) }
     go false e =
-        let more : evaluation ns j ≤ evaluation ns i = ltb-false _ _ e in
-        record { from = λ n z. inl z; kept = λ n z. level ns j n (cc); heard = λ n z. le-trans more (level ns i n (omega arith)) }
+        let more : solutionCost d ns j ≤ solutionCost d ns i = ltb-false _ _ e in
+        record { from = λ n z. inl z; kept = λ n z. level d ns j n (cc); heard = λ n z. le-trans more (level d ns i n (omega arith)) }
 
 never-mem : (x : ℕ) → mem x [] ≡ true → ⊥
 never-mem x e = true≢false (sym e ∙ mem-nil x)
 
-pub cheapest-is : (d : Domain) (ns : List Node) (cl gs : List ℕ) (o : Solution) → Cheapest ns cl gs o (cheapest d ns cl gs o)
+pub cheapest-is : (d : Domain) (ns : List Node) (cl gs : List ℕ) (o : Solution) → Cheapest d ns cl gs o (cheapest d ns cl gs o)
 unfolding cheapest
 cheapest-is d ns cl [] Unsolved = record { from = λ n e. inl e; start = λ j e. absurd (unsolved-at j e); each = λ x i e. absurd (never-mem x e) }
-cheapest-is d ns cl [] (At k) = record { from = λ n e. inl e; start = λ j e. level ns k j (cc); each = λ x i e. absurd (never-mem x e) }
+cheapest-is d ns cl [] (At k) = record { from = λ n e. inl e; start = λ j e. level d ns k j (cc); each = λ x i e. absurd (never-mem x e) }
 cheapest-is d ns cl (v ∷ vs) o = go (consider d ns o (closedAt cl v)) (considered d ns o (closedAt cl v)) (cheapest-is d ns cl vs (consider d ns o (closedAt cl v)))
   where
-    go : (p : Solution) → Considered ns o (closedAt cl v) p → Cheapest ns cl vs p (cheapest d ns cl vs p) → Cheapest ns cl (v ∷ vs) o (cheapest d ns cl vs p)
+    go : (p : Solution) → Considered d ns o (closedAt cl v) p → Cheapest d ns cl vs p (cheapest d ns cl vs p) → Cheapest d ns cl (v ∷ vs) o (cheapest d ns cl vs p)
     go p h r =
         record {
           from = λ n e. elim (r .from n e) [
@@ -93,26 +94,26 @@ cheapest-is d ns cl (v ∷ vs) o = go (consider d ns o (closedAt cl v)) (conside
           ];
         }
       where
-        through : (p : Solution) (k : ℕ) → Upto ns p k → ((j : ℕ) → p ≡ At j → Upto ns (cheapest d ns cl vs p) (evaluation ns j)) → Upto ns (cheapest d ns cl vs p) k
+        through : (p : Solution) (k : ℕ) → Upto d ns p k → ((j : ℕ) → p ≡ At j → Upto d ns (cheapest d ns cl vs p) (solutionCost d ns j)) → Upto d ns (cheapest d ns cl vs p) k
         through Unsolved k u f = absurd u
-        through (At j) k u f = upto-le ns (cheapest d ns cl vs (At j)) _ k u (f j refl)
+        through (At j) k u f = upto-le d ns (cheapest d ns cl vs (At j)) _ k u (f j refl)
 
 -- ---- the solution held: "A find replaces the entry's run unless dearer"
 
-pub hold-find : (d : Domain) (ns : List Node) (h : Solution) (n : ℕ) → Upto ns (hold d ns h (At n)) (evaluation ns n)
+pub hold-find : (d : Domain) (ns : List Node) (h : Solution) (n : ℕ) → Upto d ns (hold d ns h (At n)) (solutionCost d ns n)
 hold-find d ns Unsolved n = omega arith
-hold-find d ns (At h) n = go (ltb (evaluation ns h) (evaluation ns n)) refl
+hold-find d ns (At h) n = go (ltb (solutionCost d ns h) (solutionCost d ns n)) refl
   where
-    go : (b : Bool) → ltb (evaluation ns h) (evaluation ns n) ≡ b → Upto ns (holdIf b (At h) n) (evaluation ns n)
+    go : (b : Bool) → ltb (solutionCost d ns h) (solutionCost d ns n) ≡ b → Upto d ns (holdIf b (At h) n) (solutionCost d ns n)
     go true e = le-of-lt (ltb-true _ _ e)
     go false e = omega arith
 
-pub hold-held : (d : Domain) (ns : List Node) (h f : Solution) (k : ℕ) → Upto ns h k → Upto ns (hold d ns h f) k
+pub hold-held : (d : Domain) (ns : List Node) (h f : Solution) (k : ℕ) → Upto d ns h k → Upto d ns (hold d ns h f) k
 hold-held d ns h Unsolved k u = u
 hold-held d ns Unsolved (At n) k u = absurd u
-hold-held d ns (At h) (At n) k u = go (ltb (evaluation ns h) (evaluation ns n)) refl
+hold-held d ns (At h) (At n) k u = go (ltb (solutionCost d ns h) (solutionCost d ns n)) refl
   where
-    go : (b : Bool) → ltb (evaluation ns h) (evaluation ns n) ≡ b → Upto ns (holdIf b (At h) n) k
+    go : (b : Bool) → ltb (solutionCost d ns h) (solutionCost d ns n) ≡ b → Upto d ns (holdIf b (At h) n) k
     go true e = u
     go false e = le-trans (ltb-false _ _ e) u
 
@@ -136,17 +137,17 @@ holds-later gs t t′ n ok l h =
     let same : node (t′ .nodes) n ≡ node (t .nodes) n = l .keeps n (ok .closer _ n (h .closes) .0) in
     record { sought = rw same (h .sought); closes = rw same (l .shut _ n (h .closes)) }
 
-pub record Known (gs : List ℕ) (t : Tree) (known : KnownLen) (held : Solution) : Type 0 where
+pub record Known (d : Domain) (gs : List ℕ) (t : Tree) (known : KnownLen) (held : Solution) : Type 0 where
   pub past : (n : ℕ) → known ≡ Len n → n ≤ closedCount (t .closed)
   pub holds : (n : ℕ) → held ≡ At n → Holds gs t n
-  pub knows : known ≡ Len (closedCount (t .closed)) → (x i : ℕ) → mem x gs ≡ true → closedAt (t .closed) x ≡ suc i → Upto (t .nodes) held (evaluation (t .nodes) i)
+  pub knows : known ≡ Len (closedCount (t .closed)) → (x i : ℕ) → mem x gs ≡ true → closedAt (t .closed) x ≡ suc i → Upto d (t .nodes) held (solutionCost d (t .nodes) i)
 
 -- a solution in a later tree
-upto-later : {d : Domain} (gs : List ℕ) (t t′ : Tree) (o : Solution) (k : ℕ) → Sound d t → Later t t′ → ((n : ℕ) → o ≡ At n → Holds gs t n) → Upto (t .nodes) o k → Upto (t′ .nodes) o k
+upto-later : {d : Domain} (gs : List ℕ) (t t′ : Tree) (o : Solution) (k : ℕ) → Sound d t → Later t t′ → ((n : ℕ) → o ≡ At n → Holds gs t n) → Upto d (t .nodes) o k → Upto d (t′ .nodes) o k
 upto-later gs t t′ Unsolved k ok l h u = u
 upto-later gs t t′ (At n) k ok l h u = rw (l .keeps n (ok .closer _ n (h n refl .closes) .0)) u
 
-pub known-later : {d : Domain} (gs : List ℕ) (t t′ : Tree) (known : KnownLen) (held : Solution) → Sound d t → Later t t′ → Known gs t known held → Known gs t′ known held
+pub known-later : {d : Domain} (gs : List ℕ) (t t′ : Tree) (known : KnownLen) (held : Solution) → Sound d t → Later t t′ → Known d gs t known held → Known d gs t′ known held
 known-later gs t t′ known held ok l k =
     record {
       past = λ n e. omega (arith, k .past n e, l .more);
@@ -158,8 +159,8 @@ known-later gs t t′ known held ok l k =
     }
 
 -- what a new entry knows
-pub first-known : (gs : List ℕ) (t : Tree) → Known gs t Never Unsolved
-first-known gs t = record { past = λ n e. absurd (never-len n e); holds = λ n e. absurd (unsolved-at n e); knows = λ e. absurd (never-len _ e) }
+pub first-known : (d : Domain) (gs : List ℕ) (t : Tree) → Known d gs t Never Unsolved
+first-known d gs t = record { past = λ n e. absurd (never-len n e); holds = λ n e. absurd (unsolved-at n e); knows = λ e. absurd (never-len _ e) }
   where
     never-len : (n : ℕ) → Never ≡ Len n → ⊥
     never-len n e = let z : _≡_ {A = ℕ} 0 1 = cc in omega arith
@@ -179,25 +180,25 @@ lookup-none d t gs known e = go (remembers known (closedCount (t .closed))) refl
   where
     go : (b : Bool) → remembers known (closedCount (t .closed)) ≡ b → lookupIf b d (t .nodes) (t .closed) gs ≡ Unsolved → (known ≡ Len (closedCount (t .closed))) ⊎ NoGoal gs t
     go true p q = inl (remembers-true known _ p)
-    go false p q = inr (λ x i m z. subst (λ (o : Solution). Upto (t .nodes) o (evaluation (t .nodes) i)) q (cheapest-is d (t .nodes) (t .closed) gs Unsolved .each x i m z))
+    go false p q = inr (λ x i m z. subst (λ (o : Solution). Upto d (t .nodes) o (solutionCost d (t .nodes) i)) q (cheapest-is d (t .nodes) (t .closed) gs Unsolved .each x i m z))
 
-record Looked (t : Tree) (gs : List ℕ) (n : ℕ) : Type 0 where
+record Looked (d : Domain) (t : Tree) (gs : List ℕ) (n : ℕ) : Type 0 where
   v : ℕ
   sought : mem v gs ≡ true
   closes : closedAt (t .closed) v ≡ suc n
-  least : (x i : ℕ) → mem x gs ≡ true → closedAt (t .closed) x ≡ suc i → evaluation (t .nodes) n ≤ evaluation (t .nodes) i
+  least : (x i : ℕ) → mem x gs ≡ true → closedAt (t .closed) x ≡ suc i → solutionCost d (t .nodes) n ≤ solutionCost d (t .nodes) i
 
-lookup-some : (d : Domain) (t : Tree) (gs : List ℕ) (known : KnownLen) (n : ℕ) → lookup d t gs known ≡ At n → Looked t gs n
+lookup-some : (d : Domain) (t : Tree) (gs : List ℕ) (known : KnownLen) (n : ℕ) → lookup d t gs known ≡ At n → Looked d t gs n
 unfolding lookup
 lookup-some d t gs known n e = go (remembers known (closedCount (t .closed))) e
   where
-    go : (b : Bool) → lookupIf b d (t .nodes) (t .closed) gs ≡ At n → Looked t gs n
+    go : (b : Bool) → lookupIf b d (t .nodes) (t .closed) gs ≡ At n → Looked d t gs n
     go true q = absurd (unsolved-at n q)
     go false q =
         let r = cheapest-is d (t .nodes) (t .closed) gs Unsolved in
         elim (r .from n q) [
           | inl z ↦ absurd (unsolved-at n z)
-          | inr z ↦ record { v = z .0; sought = z .1; closes = z .2; least = λ x i p y. subst (λ (o : Solution). Upto (t .nodes) o (evaluation (t .nodes) i)) q (r .each x i p y) }
+          | inr z ↦ record { v = z .0; sought = z .1; closes = z .2; least = λ x i p y. subst (λ (o : Solution). Upto d (t .nodes) o (solutionCost d (t .nodes) i)) q (r .each x i p y) }
         ]
 
 -- ---- the turn
@@ -215,12 +216,17 @@ under-le (Bound b) k j h u = omega arith
 pub record Turned (d : Domain) (gs : List ℕ) (b : CostBound) (t : Tree) (prior : KnownLen) (held : Solution) (u : Turn) : Type 0 where
   pub sound : Sound d (u .tree)
   pub later : Later t (u .tree)
-  pub known : Known gs (u .tree) (knownAfter prior (u .known)) (hold d (u .tree .nodes) held (u .find))
+  pub known : Known d gs (u .tree) (knownAfter prior (u .known)) (hold d (u .tree .nodes) held (u .find))
   pub finds : (n : ℕ) → u .find ≡ At n → Holds gs (u .tree) n
   pub done : u .more ≡ false → (v : ℕ) (ls : List ℕ) → mem v gs ≡ true → Leads (d .graph) (t .start) ls v
-      → Upto (u .tree .nodes) (hold d (u .tree .nodes) held (u .find)) (initialCost d (t .start) + total (d .graph) ls) ⊎ Under b (initialCost d (t .start) + total (d .graph) ls)
+      → Upto d (u .tree .nodes) (hold d (u .tree .nodes) held (u .find)) (pathWorth d (t .start) ls v) ⊎ Under b (pathWorth d (t .start) ls v)
   pub tickets : length (u .tree .nodes) + length (t .waiting) ≡ u .tickets + (length (t .nodes) + length (u .tree .waiting))
   pub moves : u .more ≡ true → 1 ≤ u .tickets
+
+-- a closed vertex is worth no more than a path to it whose weight is at least its node's evaluation
+closed-worth : (d : Domain) (t : Tree) → Sound d t → (a v i : ℕ) (ls : List ℕ) → closedAt (t .closed) v ≡ suc i → evaluation (t .nodes) i ≤ pathWeight d a ls
+    → solutionCost d (t .nodes) i ≤ pathWorth d a ls v
+closed-worth d t ok a v i ls z h = rw (ok .closer v i z .1) at (solution-worth d a ls (node (t .nodes) i) h)
 
 -- nothing that waits is under the bound
 queue-under : (ns : List Node) (b : CostBound) (k : ℕ) (q : List ℕ) → under ns (least ns q) b ≡ false → (j : ℕ) → List·Memᴰ j q → evaluation ns j ≤ k → Under b k
@@ -234,17 +240,19 @@ queue-under ns (Bound v) k (x ∷ xs) u j m h =
     elim (List·Memᴰ·cases-cons m) [ inl z ↦ rw z (before-cost ns n x (r .first)) | inr z ↦ before-cost ns n j (r .firsts j z) ] in
     le-trans (ltb-false _ _ u) (le-trans le h)
 
-module _ (d : Domain) (acc : Accepted (d .graph)) (gs : List ℕ) (b : CostBound) (t : Tree) (ok : Sound d t) (known : KnownLen) (held : Solution) (kn : Known gs t known held) where
-  looked-holds : (n : ℕ) → Looked t gs n → Holds gs t n
+module _ (d : Domain) (acc : Accepted (d .graph)) (gs : List ℕ) (b : CostBound) (t : Tree) (ok : Sound d t) (known : KnownLen) (held : Solution) (kn : Known d gs t known held) where
+  looked-holds : (n : ℕ) → Looked d t gs n → Holds gs t n
   looked-holds n l =
       let e : (node (t .nodes) n) .vertex ≡ l .v = ok .closer (l .v) n (l .closes) .1 in
       record { sought = rw e (l .sought); closes = rw e (l .closes) }
 
-  looked-done : (n : ℕ) → Looked t gs n → (v k : ℕ) → mem v gs ≡ true → Front t v k → evaluation (t .nodes) n ≤ k
-  looked-done n l v k e (done i z h) = le-trans (l .least v i e z) h
-  looked-done n l v k e (later j q h) = le-trans (ok .cheapest (l .v) n j (l .closes) q) h
+  -- what waits is worth no less than what is closed
+  looked-done : (n : ℕ) → Looked d t gs n → (v : ℕ) (ls : List ℕ) → mem v gs ≡ true → Front t v (pathWeight d (t .start) ls) → solutionCost d (t .nodes) n ≤ pathWorth d (t .start) ls v
+  looked-done n l v ls e (done i z h) = le-trans (l .least v i e z) (closed-worth d t ok (t .start) v i ls z h)
+  looked-done n l v ls e (later j q h) =
+      omega (arith, solution-is d (node (t .nodes) n), ok .cheapest (l .v) n j (l .closes) q, h, weight-worth d (t .start) ls v)
 
-  found-turn : (n : ℕ) → Looked t gs n → Turned d gs b t known held (record { tree = t; known = Never; find = At n; more = false; tickets = 0 })
+  found-turn : (n : ℕ) → Looked d t gs n → Turned d gs b t known held (record { tree = t; known = Never; find = At n; more = false; tickets = 0 })
   found-turn n l =
       record {
         sound = ok;
@@ -255,13 +263,13 @@ module _ (d : Domain) (acc : Accepted (d .graph)) (gs : List ℕ) (b : CostBound
           knows = λ e x i m z. hold-held d (t .nodes) held (At n) _ (kn .knows e x i m z);
         };
         finds = λ k z. let q : n ≡ k = cc in subst (Holds gs t) q (looked-holds n l);
-        done = λ e v ls p r. inl (upto-le (t .nodes) (hold d (t .nodes) held (At n)) _ _ (looked-done n l v _ p (front-start d t ok v ls r)) (hold-find d (t .nodes) held n));
+        done = λ e v ls p r. inl (upto-le d (t .nodes) (hold d (t .nodes) held (At n)) _ _ (looked-done n l v ls p (front-start d t ok v ls r)) (hold-find d (t .nodes) held n));
         tickets = omega arith;
         moves = λ e. absurd (true≢false (sym e));
       }
 
   -- the goals that were closed before
-  known-old : lookup d t gs known ≡ Unsolved → (x i : ℕ) → mem x gs ≡ true → closedAt (t .closed) x ≡ suc i → Upto (t .nodes) held (evaluation (t .nodes) i)
+  known-old : lookup d t gs known ≡ Unsolved → (x i : ℕ) → mem x gs ≡ true → closedAt (t .closed) x ≡ suc i → Upto d (t .nodes) held (solutionCost d (t .nodes) i)
   known-old e x i m z = elim (lookup-none d t gs known e) [ inl h ↦ kn .knows h x i m z | inr h ↦ absurd (h x i m z) ]
 
   module _ (e : lookup d t gs known ≡ Unsolved) (g : Growth) (r : Grew d gs t g) (mv : Moved g) where
@@ -273,30 +281,31 @@ module _ (d : Domain) (acc : Accepted (d .graph)) (gs : List ℕ) (b : CostBound
         go (found k) f z = let q : k ≡ n = cc in subst (Holds gs (g .tree)) q (record { sought = f .goal; closes = f .closes })
         go over f z = absurd (unsolved-at n z)
 
-    old-knows : (x i : ℕ) → mem x gs ≡ true → closedAt (t .closed) x ≡ suc i → Upto (g .tree .nodes) held (evaluation (g .tree .nodes) i)
+    old-knows : (x i : ℕ) → mem x gs ≡ true → closedAt (t .closed) x ≡ suc i → Upto d (g .tree .nodes) held (solutionCost d (g .tree .nodes) i)
     old-knows x i m z = rw (r .later .keeps i (ok .closer x i z .0)) (upto-later gs t (g .tree) held _ ok (r .later) (kn .holds) (known-old e x i m z))
 
     grown-knows : (x i : ℕ) → mem x gs ≡ true → closedAt (g .tree .closed) x ≡ suc i
-        → Upto (g .tree .nodes) (hold d (g .tree .nodes) held (findOf (g .going))) (evaluation (g .tree .nodes) i)
+        → Upto d (g .tree .nodes) (hold d (g .tree .nodes) held (findOf (g .going))) (solutionCost d (g .tree .nodes) i)
     grown-knows x i m z = go (g .going) (r .gone)
       where
-        go : (y : Going) → Gone gs (g .tree .nodes) (t .closed) (g .tree .closed) y → Upto (g .tree .nodes) (hold d (g .tree .nodes) held (findOf y)) (evaluation (g .tree .nodes) i)
+        go : (y : Going) → Gone gs (g .tree .nodes) (t .closed) (g .tree .closed) y → Upto d (g .tree .nodes) (hold d (g .tree .nodes) held (findOf y)) (solutionCost d (g .tree .nodes) i)
         go on f = old-knows x i m (f x i m z)
         go (found k) f = elim (f .only x i m z) [ inl h ↦ hold-held d (g .tree .nodes) held (At k) _ (old-knows x i m h) | inr h ↦ rw h (hold-find d (g .tree .nodes) held k) ]
         go over f = old-knows x i m (f x i m z)
 
-    grown-done : under (g .tree .nodes) (least (g .tree .nodes) (g .tree .waiting)) b ≡ false → (v k : ℕ) → mem v gs ≡ true → Front (g .tree) v k
-        → Upto (g .tree .nodes) (hold d (g .tree .nodes) held (findOf (g .going))) k ⊎ Under b k
-    grown-done u v k p (done i z h) = inl (upto-le (g .tree .nodes) (hold d (g .tree .nodes) held (findOf (g .going))) _ k h (grown-knows v i p z))
-    grown-done u v k p (later j q h) = inr (queue-under (g .tree .nodes) b k (g .tree .waiting) u j q h)
+    grown-done : under (g .tree .nodes) (least (g .tree .nodes) (g .tree .waiting)) b ≡ false → (v : ℕ) (ls : List ℕ) → mem v gs ≡ true → Front (g .tree) v (pathWeight d (t .start) ls)
+        → Upto d (g .tree .nodes) (hold d (g .tree .nodes) held (findOf (g .going))) (pathWorth d (t .start) ls v) ⊎ Under b (pathWorth d (t .start) ls v)
+    grown-done u v ls p (done i z h) =
+        inl (upto-le d (g .tree .nodes) (hold d (g .tree .nodes) held (findOf (g .going))) _ _ (closed-worth d (g .tree) (r .sound) (t .start) v i ls z h) (grown-knows v i p z))
+    grown-done u v ls p (later j q h) = inr (under-le b _ _ (weight-worth d (t .start) ls v) (queue-under (g .tree .nodes) b _ (g .tree .waiting) u j q h))
 
     grown-moves : under (g .tree .nodes) (least (g .tree .nodes) (g .tree .waiting)) b ≡ true → 1 ≤ g .tickets
     unfolding least
     grown-moves u = elim mv [ inl h ↦ h | inr h ↦ absurd (true≢false (sym u ∙ ap (λ (q : List ℕ). under (g .tree .nodes) (least (g .tree .nodes) q) b) h)) ]
 
-    grown-front : (v : ℕ) (ls : List ℕ) → Leads (d .graph) (t .start) ls v → Front (g .tree) v (initialCost d (t .start) + total (d .graph) ls)
+    grown-front : (v : ℕ) (ls : List ℕ) → Leads (d .graph) (t .start) ls v → Front (g .tree) v (pathWeight d (t .start) ls)
     grown-front v ls l =
-        subst (λ (x : ℕ). Front (g .tree) v (initialCost d x + total (d .graph) ls)) (r .later .start)
+        subst (λ (x : ℕ). Front (g .tree) v (pathWeight d x ls)) (r .later .start)
         (front-start d (g .tree) (r .sound) v ls (subst (λ (x : ℕ). Leads (d .graph) x ls v) (sym (r .later .start)) l))
 
     grown-turn : Turned d gs b t known held (grown g b)
@@ -311,7 +320,7 @@ module _ (d : Domain) (acc : Accepted (d .graph)) (gs : List ℕ) (b : CostBound
             knows = λ _. grown-knows;
           };
           finds = grown-finds;
-          done = λ u v ls p l. grown-done u v (initialCost d (t .start) + total (d .graph) ls) p (grown-front v ls l);
+          done = λ u v ls p l. grown-done u v ls p (grown-front v ls l);
           tickets = r .tickets;
           moves = grown-moves;
         }

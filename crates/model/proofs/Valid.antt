@@ -49,6 +49,15 @@ module _ (s : Search) (fits : s .«tree_count» ≤ length (s .trees)) where
   pub entries-at : (i : ℕ) → i < s .«tree_count» → getD (entries s) i blank ≡ entry s i
   entries-at i h = getD-take (s .«tree_count») (s .trees) i blank h
 
+  -- what passes at all entries, at each; and what holds of each, of all
+  pub every-entry : (p : TreeMemory → Bool) → everyb p (entries s) ≡ true → (i : ℕ) → i < s .«tree_count» → p (entry s i) ≡ true
+  every-entry p e i h = subst (λ (x : TreeMemory). p x ≡ true) (entries-at i h) (every-at p (entries s) e i (omega (arith, entries-length)))
+
+  pub at-entries : (P : TreeMemory → Type 0) → ((i : ℕ) → i < s .«tree_count» → P (entry s i)) → (i : ℕ) → i < length (entries s) → P (getD (entries s) i blank)
+  at-entries P f i h =
+      let j : i < s .«tree_count» = omega (arith, entries-length) in
+      subst P (sym (entries-at i j)) (f i j)
+
 -- ---- what is not refused
 
 holds-at : (gs : List ℕ) (t : Tree) (n : ℕ) → closesGoal gs t n ≡ true → Holds gs t n
@@ -78,23 +87,18 @@ valid-at d ts s e =
     let arrays : length (s .trees) ≡ 64 = eqb-true _ _ (l .0) in
     let counts : s .«tree_count» ≤ 64 = leb-true _ _ (l .1 .0) in
     let fits : s .«tree_count» ≤ length (s .trees) = omega arith in
+    let test = every-entry s fits (λ e. allb (entryTests d ts (goals s) e)) (r .1 .1 .0) in
     record {
       arrays = arrays;
       counts = counts;
-      slots = λ i h. ltb-true _ _ (all-true (entryTests d ts (goals s) (entry s i)) (test fits (r .1 .1 .0) i h) .0);
-      closes = λ i h. solution-at (goals s) (tree ts ((entry s i) .tree)) ((entry s i) .solution) (all-true (entryTests d ts (goals s) (entry s i)) (test fits (r .1 .1 .0) i h) .1 .1 .0);
+      slots = λ i h. ltb-true _ _ (all-true (entryTests d ts (goals s) (entry s i)) (test i h) .0);
+      closes = λ i h. solution-at (goals s) (tree ts ((entry s i) .tree)) ((entry s i) .solution) (all-true (entryTests d ts (goals s) (entry s i)) (test i h) .1 .1 .0);
       best = λ i n z.
           let q = all-true (bestTests ts s i n) (subst (λ (x : BestSolution). bestCloses ts s x ≡ true) z (r .1 .1 .1 .0)) in
           (ltb-true _ _ (q .0), holds-at (goals s) (tree ts ((entry s i) .tree)) n (q .1 .0));
       held = λ x i n z. shows i (subst (λ (y : BestSolution). bestHeld s y ≡ true) z (finished (s .exhausted) x (r .1 .1 .1 .1 .1 .0)));
     }
   where
-    test : s .«tree_count» ≤ length (s .trees) → everyb (λ e. allb (entryTests d ts (goals s) e)) (entries s) ≡ true
-        → (i : ℕ) → i < s .«tree_count» → allb (entryTests d ts (goals s) (entry s i)) ≡ true
-    test fits t i h =
-        subst (λ (x : TreeMemory). allb (entryTests d ts (goals s) x) ≡ true) (entries-at s fits i h)
-        (every-at (λ e. allb (entryTests d ts (goals s) e)) (entries s) t i (omega (arith, entries-length s fits)))
-
     finished : (x : Bool) → x ≡ true → (not x || bestHeld s (s .«best_solution»)) ≡ true → bestHeld s (s .«best_solution») ≡ true
     finished true z q = q
     finished false z q = absurd (true≢false (sym z))
@@ -174,54 +178,52 @@ module _ (O : ℕ → Type 0) (d : Domain) (ts : List Tree) (ok : SoundTrees d t
   fits : s .«tree_count» ≤ length (s .trees)
   fits = omega (arith, r .arrays, r .counts)
 
-  known-test : (e : TreeMemory) → EntryOk O (goals s) ts (bound d ts s) e → knownWithin d (e .«last_known_closed_len») ≡ true
+  known-test : (e : TreeMemory) → EntryOk O d (goals s) ts (bound d ts s) e → knownWithin d (e .«last_known_closed_len») ≡ true
   known-test e k = go (e .«last_known_closed_len») refl
     where
       go : (x : KnownLen) → e .«last_known_closed_len» ≡ x → knownWithin d x ≡ true
       go Never z = refl
       go (Len n) z = le-leb n (vertexCount (d .graph)) (omega (arith, k .known .past n z, count-le (tree ts (e .tree) .closed), ok .each (e .tree) (k .inside) .sized))
 
-  solution-test : (e : TreeMemory) → EntryOk O (goals s) ts (bound d ts s) e → solutionCloses (goals s) (tree ts (e .tree)) (e .solution) ≡ true
+  solution-test : (e : TreeMemory) → EntryOk O d (goals s) ts (bound d ts s) e → solutionCloses (goals s) (tree ts (e .tree)) (e .solution) ≡ true
   solution-test e k = go (e .solution) refl
     where
       go : (x : Solution) → e .solution ≡ x → solutionCloses (goals s) (tree ts (e .tree)) x ≡ true
       go Unsolved z = refl
       go (At n) z = at-holds (goals s) (tree ts (e .tree)) n (k .known .holds n z)
 
-  entry-test : (e : TreeMemory) → EntryOk O (goals s) ts (bound d ts s) e → allb (entryTests d ts (goals s) e) ≡ true
+  entry-test : (e : TreeMemory) → EntryOk O d (goals s) ts (bound d ts s) e → allb (entryTests d ts (goals s) e) ≡ true
   entry-test e k = true-given (entryTests d ts (goals s) e) (lt-ltb _ _ (k .inside)) (known-test e k) (solution-test e k)
 
-  ok-at : (i : ℕ) → i < length (entries s) → EntryOk O (goals s) ts (bound d ts s) (getD (entries s) i blank)
-  ok-at i h =
-      let j : i < s .«tree_count» = omega (arith, entries-length s fits) in
-      subst (EntryOk O (goals s) ts (bound d ts s)) (sym (entries-at s fits i j)) (r .entries i j)
+  ok-at : (i : ℕ) → i < length (entries s) → EntryOk O d (goals s) ts (bound d ts s) (getD (entries s) i blank)
+  ok-at = at-entries s fits (EntryOk O d (goals s) ts (bound d ts s)) (r .entries)
 
-  best-test : (x : BestSolution) → BestsOk (goals s) ts s x → bestCloses ts s x ≡ true
+  best-test : (x : BestSolution) → BestsOk d (goals s) ts s x → bestCloses ts s x ≡ true
   best-test NoBest k = refl
   best-test (Best i n) k = true-given (bestTests ts s i n) (lt-ltb _ _ (k .counted)) (at-holds (goals s) (tree ts ((entry s i) .tree)) n (k .holds))
 
-  held-test : (x : BestSolution) → BestsOk (goals s) ts s x → bestHeld s x ≡ true
+  held-test : (x : BestSolution) → BestsOk d (goals s) ts s x → bestHeld s x ≡ true
   held-test NoBest k = refl
   held-test (Best i n) k = rw (k .held)
 
-  low-held : (k : ℕ) (e : TreeMemory) → EntryOk O (goals s) ts (Bound k) e → Low k (heldBy d ts e)
+  low-held : (k : ℕ) (e : TreeMemory) → EntryOk O d (goals s) ts (Bound k) e → Low k (heldBy d ts e)
   low-held k e x = go (e .solution) refl
     where
       go : (o : Solution) → e .solution ≡ o → Low k (heldCost d (tree ts (e .tree)) o)
       go Unsolved z = tt
       go (At n) z = x .low n z
 
-  none-held : (e : TreeMemory) → EntryOk O (goals s) ts Unbounded e → heldBy d ts e ≡ Unbounded
+  none-held : (e : TreeMemory) → EntryOk O d (goals s) ts Unbounded e → heldBy d ts e ≡ Unbounded
   none-held e x = go (e .solution) refl
     where
       go : (o : Solution) → e .solution ≡ o → heldCost d (tree ts (e .tree)) o ≡ Unbounded
       go Unsolved z = refl
       go (At n) z = absurd (x .low n z)
 
-  least-is : (x : BestSolution) → bound d ts s ≡ boundOf d ts s x → BestsOk (goals s) ts s x → leastHeld d ts (entries s) ≡ boundOf d ts s x
-  least-is NoBest z k = least-none d ts (entries s) (λ i h. none-held _ (subst (λ (b : CostBound). EntryOk O (goals s) ts b (getD (entries s) i blank)) z (ok-at i h)))
+  least-is : (x : BestSolution) → bound d ts s ≡ boundOf d ts s x → BestsOk d (goals s) ts s x → leastHeld d ts (entries s) ≡ boundOf d ts s x
+  least-is NoBest z k = least-none d ts (entries s) (λ i h. none-held _ (subst (λ (b : CostBound). EntryOk O d (goals s) ts b (getD (entries s) i blank)) z (ok-at i h)))
   least-is (Best i n) z k =
-      least-some d ts _ (entries s) (λ j h. low-held _ _ (subst (λ (b : CostBound). EntryOk O (goals s) ts b (getD (entries s) j blank)) z (ok-at j h)))
+      least-some d ts _ (entries s) (λ j h. low-held _ _ (subst (λ (b : CostBound). EntryOk O d (goals s) ts b (getD (entries s) j blank)) z (ok-at j h)))
       i (omega (arith, entries-length s fits, k .counted))
       (ap (heldBy d ts) (entries-at s fits i (k .counted)) ∙ ap (heldCost d (tree ts ((entry s i) .tree))) (k .held) ∙ ap Bound (k .level))
 

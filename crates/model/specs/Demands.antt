@@ -45,11 +45,14 @@ pub record Filled (p q : List ℕ) (m : ℕ) : Type 0 where
 
 -- ---- lists of calls
 
--- "opening a search with any start and wanted lists, and step and `retrace` with any record, strange ones too, and any run slice"
+-- "opening a search with any start and wanted lists, and step and `retrace` with any record, strange ones too, and any run slice"; a call
+-- that only reads the book, whatever it answers; and one that is made of two, one after the other
 pub data Call : Type 0 where
   initializing : List ℕ → List ℕ → Call
   stepping : Search → Call
   retracing : Search → List ℕ → Call
+  reading : Call
+  both : Call → Call → Call
 
 -- "each getting the book as the last one left it"
 unfoldable pub after : Cache → Call → Cache
@@ -57,6 +60,8 @@ unfolding initialize step
 after c (initializing ss gs) = (initialize c ss gs) .cache
 after c (stepping s) = (step c s) .cache
 after c (retracing s p) = c
+after c reading = c
+after c (both x y) = after (after c x) y
 
 unfoldable pub afterAll : Cache → List Call → Cache
 unfolding after

@@ -2,6 +2,7 @@ pub mod Limits
 pub mod Lists
 pub mod Answers
 pub mod Graph
+pub mod Worth
 pub mod Tree
 pub mod Path
 pub mod Sound

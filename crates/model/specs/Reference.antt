@@ -27,9 +27,13 @@ use Rattle.model.specs.Tree.{Tree, Node, node, closedAt, evaluation, pop
 use Rattle.model.specs.Sound.{noTree, tree}
 use Rattle.model.specs.Search.{closedCount, entries, goals, entry, solutionCost}
 use Rattle.model.specs.Calls.{Cache, opened, withTrees, firstFault, initializeFaults, stepFaults, AfterRetrace, written}
-use Rattle.model.specs.Demands.{Call, initializing, stepping, retracing, Act, ownStep, ownRetrace, other, Event, stepped, retraced}
+use Rattle.model.specs.Demands.{Call, initializing, stepping, retracing, reading, both, Act, ownStep, ownRetrace, other, Event, stepped, retraced}
 use Rattle.model.specs.Calls as ours
 use Rattle.model.specs.Demands as demands
+
+-- the Rust's `Cost` of a node: `node.cost()`
+abbrev pub costOf : Node → ℕ
+costOf x = x .cost
 
 -- ---- path.rs: `Path`
 
@@ -64,7 +68,7 @@ retraceFrom ns (suc b) n seq k = elim (eqb ((node ns n) .parent) absent) [
 
 unfoldable pub retraceNode : List Node → ℕ → Path
 unfolding retraceFrom
-retraceNode ns n = retraceFrom ns n n [] ((node ns n) .cost)
+retraceNode ns n = retraceFrom ns n n [] (costOf (node ns n))
 
 -- `ClosedStatus`: `Open`, or `Closed` by a node
 abbrev pub statusOfWord : ℕ → Option ℕ
@@ -77,7 +81,7 @@ statusForKey t v = statusOfWord (closedAt (t .closed) v)
 -- `if prior.cost() <= node.cost() { return Ok(()) }`
 abbrev pub rejects : List Node → Node → Option ℕ → Bool
 rejects ns x none = false
-rejects ns x (some prior) = leb ((node ns prior) .cost) (x .cost)
+rejects ns x (some prior) = leb (costOf (node ns prior)) (costOf x)
 
 abbrev pub pushUnless : Bool → Tree → Node → Tree
 pushUnless true t x = t
@@ -219,7 +223,7 @@ pathIf false o p = some p
 
 abbrev pub lookAt : List Node → Option Path → Option ℕ → Option Path
 lookAt ns o none = o
-lookAt ns o (some n) = pathIf (notBetter o ((node ns n) .cost)) o (retraceNode ns n)
+lookAt ns o (some n) = pathIf (notBetter o (costOf (node ns n))) o (retraceNode ns n)
 
 unfoldable pub lookGoals : Tree → List ℕ → Option Path → Option Path
 unfolding retraceNode
@@ -248,11 +252,11 @@ abbrev pub textGraph : Domain → Graph
 textGraph d = (domain (d .direction) (d .graph)) .graph
 
 -- `for next in self.domain.choices(top.state.clone())`: a row of the edge table, target by target
-unfoldable pub pushChoices : Domain → ℕ → ℕ → Tree → List Target → Tree
+unfoldable pub pushChoices : Domain → ℕ → Node → Tree → List Target → Tree
 unfolding pushNode domain
-pushChoices d top k t [] = t
-pushChoices d top k t (x ∷ xs) =
-    pushChoices d top k (pushNode t (record { vertex = x .to; cost = k + cost (textGraph d) (x .edge); parent = top; edge = x .edge })) xs
+pushChoices d top p t [] = t
+pushChoices d top p t (x ∷ xs) =
+    pushChoices d top p (pushNode t (record { vertex = x .to; cost = p .cost + cost (textGraph d) (x .edge); parent = top; edge = x .edge })) xs
 
 -- `container.insert`, and `*prior = top_id`
 abbrev pub closing : Tree → ℕ → ℕ → Tree
@@ -272,8 +276,8 @@ unfoldable pub expandTop : Domain → List ℕ → Option ℕ → Tree → ℕ �
 unfolding pushChoices retraceNode edgesFromVertex domain mem
 expandTop d keys bound t top =
     let x = node (t .nodes) top in
-    endTicket (mem (x .vertex) keys) (pastBound bound (x .cost))
-    (pushChoices d top (x .cost) (closing t (x .vertex) top) (edgesFromVertex (d .direction) (textGraph d) (x .vertex))) top
+    endTicket (mem (x .vertex) keys) (pastBound bound (costOf x))
+    (pushChoices d top x (closing t (x .vertex) top) (edgesFromVertex (d .direction) (textGraph d) (x .vertex))) top
 
 -- `CloseResult::Rejected { prior, .. }`: `if prior_node.cost <= top.cost { continue; }`, else `*prior = top_id`
 unfoldable pub closeTop : Domain → List ℕ → Option ℕ → Tree → ℕ → Bool → Growing
@@ -455,7 +459,8 @@ unfolding readEntry
 readMemory d ts s =
     record { trees = map (readEntry ts) (entries s); goalKeys = goals s; bestSolution = readBest d ts s (s .«best_solution»); exhausted = s .exhausted }
 
--- ---- lists of calls, made to the reference: a call that is refused is not made
+-- ---- lists of calls, made to the reference: a call that is refused is not made, one that only reads has no part in it, and of one that is
+-- made of two both are made
 
 abbrev pub treesWhen : Option ℕ → List Tree → List Tree → List Tree
 treesWhen none us ts = us
@@ -466,6 +471,8 @@ unfolding initialize step readMemory
 after c (initializing ss gs) = withTrees c (treesWhen (firstFault (initializeFaults c ss gs)) ((initialize (c .domain) (c .trees) ss gs) .trees) (c .trees))
 after c (stepping s) = withTrees c (treesWhen (firstFault (stepFaults c s)) ((step (c .domain) (c .trees) (readMemory (c .domain) (c .trees) s)) .trees) (c .trees))
 after c (retracing s p) = c
+after c reading = c
+after c (both x y) = after (after c x) y
 
 unfoldable pub afterAll : Cache → List Call → Cache
 unfolding after

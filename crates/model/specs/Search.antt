@@ -18,6 +18,7 @@ use Rattle.model.specs.declared.BestSolution.the-variants.{NoBest, Best}
 use Rattle.model.specs.declared.TreeMemory.{TreeMemory}
 use Rattle.model.specs.declared.Search.{Search}
 use Rattle.model.specs.Graph.{Domain, Direction, forward, backward, absent, initialCost}
+pub use Rattle.model.specs.Worth.{solutionCost}
 use Rattle.model.specs.Tree.{Tree, Node, closedAt, evaluation, newTree, Going, on, found, over, Growth, grow, least}
 use Rattle.model.specs.Sound.{tree}
 
@@ -120,10 +121,6 @@ closedCount (x ∷ xs) = countIf (eqb x 0) (closedCount xs)
 abbrev pub remembers : KnownLen → ℕ → Bool
 remembers Never n = false
 remembers (Len k) n = eqb n k
-
--- what the solution at node n is worth
-abbrev pub solutionCost : Domain → List Node → ℕ → ℕ
-solutionCost d ns n = evaluation ns n
 
 abbrev pub chosen : Bool → ℕ → ℕ → Solution
 chosen true i j = At i

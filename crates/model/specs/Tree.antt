@@ -3,22 +3,14 @@
 use mathlib.Core.Bool.{Bool, true, false, not, _&&_, _||_}
 use mathlib.Core.List.{List, [], _∷_, _++_}
 use mathlib.Core.Option.{Option, none, some}
-use Prim.Native.Nat.{ℕ, zero, suc, _+_}
+use Prim.Native.Nat.{ℕ, zero, suc}
 use lib.Dec.{eqb, leb, ltb}
 use lib.ListN.{length, getD, set, replicate}
 use Rattle.model.specs.declared.CostBound.{CostBound}
 use Rattle.model.specs.declared.CostBound.the-variants.{Unbounded, Bound}
 use Rattle.model.specs.Lists.{keep, mem}
-use Rattle.model.specs.Graph.{Domain, to, cost, absent, choices, vertexCount, initialCost}
-
-pub record Node : Type 0 where
-  pub vertex : ℕ
-  pub cost : ℕ
-  pub parent : ℕ
-  pub edge : ℕ
-
-abbrev pub noNode : Node
-noNode = record { vertex = 0; cost = 0; parent = 0; edge = 0 }
+use Rattle.model.specs.Graph.{Domain, choices, vertexCount}
+pub use Rattle.model.specs.Worth.{Node, noNode, node, rootNode, child, evaluationOf, evaluation, weight}
 
 -- waiting: the numbers of the nodes in the queue, ascending. closed: for each vertex 0, or the number plus 1 of the node that closed it
 pub record Tree : Type 0 where
@@ -27,26 +19,8 @@ pub record Tree : Type 0 where
   pub waiting : List ℕ
   pub closed : List ℕ
 
-abbrev pub node : List Node → ℕ → Node
-node ns i = getD ns i noNode
-
 abbrev pub closedAt : List ℕ → ℕ → ℕ
 closedAt cl v = getD cl v 0
-
--- the Rust's `queue_evaluation`: what tickets, bounds and solutions are compared by
-abbrev pub evaluationOf : Node → ℕ
-evaluationOf x = x .cost
-
-abbrev pub evaluation : List Node → ℕ → ℕ
-evaluation ns i = evaluationOf (node ns i)
-
--- what an edge adds to an evaluation
-abbrev pub weight : Domain → ℕ → ℕ
-weight d l = cost (d .graph) l
-
--- "The root has 4294967295 as parent and link"
-abbrev pub rootNode : Domain → ℕ → Node
-rootNode d v = record { vertex = v; cost = initialCost d v; parent = absent; edge = absent }
 
 -- a new tree: its root waits
 unfoldable pub newTree : Domain → ℕ → Tree
@@ -101,19 +75,16 @@ pushIf false t x = appended t x
 unfoldable pub pushNode : Tree → Node → Tree
 pushNode t x = pushIf (closedWithin (t .nodes) (evaluationOf x) (closedAt (t .closed) (x .vertex))) t x
 
--- what the edge l gives, hung on node n of cost k
-abbrev pub child : Domain → ℕ → ℕ → ℕ → Node
-child d n k l = record { vertex = to (d .graph) l; cost = k + cost (d .graph) l; parent = n; edge = l }
-
-unfoldable pub pushAll : Domain → ℕ → ℕ → Tree → List ℕ → Tree
+-- the edges ls, hung on node n, which is p
+unfoldable pub pushAll : Domain → ℕ → Node → Tree → List ℕ → Tree
 unfolding pushNode
-pushAll d n k t [] = t
-pushAll d n k t (l ∷ ls) = pushAll d n k (pushNode t (child d n k l)) ls
+pushAll d n p t [] = t
+pushAll d n p t (l ∷ ls) = pushAll d n p (pushNode t (child d n p l)) ls
 
 -- node n closes its vertex, and the edges of that vertex are queued
 unfoldable pub expanded : Domain → Tree → ℕ → Tree
 unfolding close choices pushAll
-expanded d t n = let x = node (t .nodes) n in pushAll d n (x .cost) (close t (x .vertex) n) (choices d (x .vertex))
+expanded d t n = let x = node (t .nodes) n in pushAll d n x (close t (x .vertex) n) (choices d (x .vertex))
 
 -- ---- growing: tree, tickets taken, and whether to go on
 

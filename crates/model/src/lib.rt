@@ -62,7 +62,7 @@ pub enum BestSolution {
 // The Rust's `Option<Cost>` of `cost_bound`.
 pub enum CostBound {
     Unbounded,
-    Bound(u32),
+    Bound(u64),
 }
 
 // One entry of a search: the slot of its tree, and what the search knows of that tree.
@@ -223,6 +223,14 @@ pub struct SearchOpened {
 
 pub struct Stepped {
     pub answer: StepAnswer,
+    pub tickets: usize,
+    pub search: Search,
+}
+
+// What some steps came to: the answer of the last, how many waited, the tickets of all, and the search.
+pub struct StepsTaken {
+    pub answer: StepAnswer,
+    pub waits: usize,
     pub tickets: usize,
     pub search: Search,
 }

@@ -4,37 +4,37 @@ use mathlib.Core.Path.{_≡_, sym, ap, ap₂, _∙_}
 use mathlib.Core.List.{List, [], _∷_}
 use Prim.Native.Nat.{ℕ, _+_, _-_, _*_, _<_, _≤_}
 use native.Mathlib.Omega.{arith}
-use lib.ListN.{length, getD, set}
+use lib.ListN.{length, set}
 use borrow.Rule.Slice.PartMut.{midOf, putMid}
 use Rattle.model.specs.Graph.{Direction}
 use Rattle.model.specs.Path.{movesOf, moved, words}
 use Rattle.model.specs.Calls.{written}
 use Rattle.model.proofs.Words.{words-count}
-use Rattle.layout.specs.Layout.{nodeAt}
+use Rattle.layout.specs.Layout.{vertexIn, parentIn, edgeIn}
 use Rattle.layout.specs.Read.{directionOf}
 use Rattle.layout.proofs.Directions.{backward-word}
 use Rattle.paths.specs.Path.{nodesOf, CanBacktrack, Backtracks}
 use Rattle.paths.proofs.Steps.{root-moves}
 use Rattle.paths.proofs.Written.{written-first, written-behind, written-before}
-use Rattle.paths.proofs.Parents.{parentOf, hung-parent, hung-moves, hung-words, hung-root}
+use Rattle.paths.proofs.Parents.{hung-parent, hung-moves, hung-words, hung-root}
 
-pub root-backtracks : {t p : List ℕ} {dir n v : ℕ} → CanBacktrack t n (length p) → v ≡ getD t (nodeAt n + 0) 0 → n ≡ 0 → Backtracks t dir n p 1 (set p 0 v)
-root-backtracks {t} {p} {dir} {n} {v} can vertex e = record {
+pub root-backtracks : {ws t p : List ℕ} {dir n v : ℕ} → CanBacktrack ws t n (length p) → v ≡ vertexIn ws t n → n ≡ 0 → Backtracks t dir n p 1 (set p 0 v)
+root-backtracks {ws} {t} {p} {dir} {n} {v} can vertex e = record {
   count = omega (arith, root-moves (nodesOf t), ap (movesOf (nodesOf t)) e);
   path =
       written-first v p (omega (arith, can .room))
-      ∙ ap (λ (ws : List ℕ). written ws p) (ap (λ (x : ℕ). x ∷ []) vertex ∙ sym (hung-root t n (can .hung) (directionOf dir) e));
+      ∙ ap (λ (xs : List ℕ). written xs p) (ap (λ (x : ℕ). x ∷ []) vertex ∙ sym (hung-root t n (can .hung) ws (directionOf dir) e));
 }
 
 -- node n is not the root: its parent is node up, its own words are the edge l and the vertex v
-pub record Below (t : List ℕ) (n up l v k : ℕ) : Type 0 where
-  pub can : CanBacktrack t n k
+pub record Below (ws t : List ℕ) (n up l v k : ℕ) : Type 0 where
+  pub can : CanBacktrack ws t n k
   pub child : n ≡ 0 → ⊥
-  pub parent : up ≡ parentOf t n
-  pub edge : l ≡ getD t (nodeAt n + 3) 0
-  pub vertex : v ≡ getD t (nodeAt n + 0) 0
+  pub parent : up ≡ parentIn t n
+  pub edge : l ≡ edgeIn t n
+  pub vertex : v ≡ vertexIn ws t n
 
-module _ {t : List ℕ} {n up l v k : ℕ} (b : Below t n up l v k) where
+module _ {ws t : List ℕ} {n up l v k : ℕ} (b : Below ws t n up l v k) where
   pos : 0 < n
   pos = omega (arith, b .child)
 
@@ -45,11 +45,11 @@ module _ {t : List ℕ} {n up l v k : ℕ} (b : Below t n up l v k) where
   parent-moves = hung-moves t n (b .can .hung) pos ∙ ap (λ (i : ℕ). 1 + movesOf (nodesOf t) i) (sym (b .parent))
 
   parent-words : (dir : Direction) → words dir (nodesOf t) n ≡ moved dir (words dir (nodesOf t) up) l v
-  parent-words dir = rw (b .parent, b .edge, b .vertex) (hung-words t n (b .can .hung) dir pos)
+  parent-words dir = rw (b .parent, b .edge, b .vertex) (hung-words t n (b .can .hung) ws dir pos)
 
   -- the parent's path asks for two words less
-  pub parent-can : {j : ℕ} → k ≤ j + 2 → CanBacktrack t up j
-  parent-can h = record { hung = rw (b .parent) (hung-parent t n (b .can .hung) pos); room = omega (arith, b .can .room, parent-moves) }
+  pub parent-can : {j : ℕ} → k ≤ j + 2 → CanBacktrack ws t up j
+  parent-can h = record { header = b .can .header; hung = rw (b .parent) (hung-parent t n (b .can .hung) pos); room = omega (arith, b .can .room, parent-moves) }
 
   pub two-words : 2 ≤ k
   two-words = omega (arith, b .can .room, parent-moves)
@@ -60,28 +60,28 @@ module _ {t : List ℕ} {n up l v k : ℕ} (b : Below t n up l v k) where
   next-count : {dir r : ℕ} {p q : List ℕ} → Backtracks t dir up p r q → r + 2 ≡ 1 + 2 * movesOf (nodesOf t) n
   next-count done = omega (arith, done .count, parent-moves)
 
-module _ {t p q : List ℕ} {n up l v dir r : ℕ} (b : Below t n up l v (length p)) where
+module _ {ws t p q : List ℕ} {n up l v dir r : ℕ} (b : Below ws t n up l v (length p)) where
   pub forward-backtracks : dir ≡ 0 → Backtracks t dir up p r q → Backtracks t dir n p (r + 2) (set (set q r l) (r + 1) v)
   forward-backtracks z done =
-      let ws : List ℕ = words (directionOf dir) (nodesOf t) up in
-      let size : r ≡ length ws = done .count ∙ sym (words-count (directionOf dir) (nodesOf t) up) in
+      let xs : List ℕ = words (directionOf dir) (nodesOf t) up in
+      let size : r ≡ length xs = done .count ∙ sym (words-count (directionOf dir) (nodesOf t) up) in
       record {
         count = next-count b done;
         path =
             ap₂ (λ (x : List ℕ) (k : ℕ). set (set x k l) (k + 1) v) (done .path) size
-            ∙ written-behind ws p l v (omega (arith, parent-room b done))
-            ∙ ap (λ (d : Direction). written (moved d ws l v) p) (sym (ap directionOf z))
+            ∙ written-behind xs p l v (omega (arith, parent-room b done))
+            ∙ ap (λ (d : Direction). written (moved d xs l v) p) (sym (ap directionOf z))
             ∙ ap (λ (x : List ℕ). written x p) (sym (parent-words b (directionOf dir)));
       }
 
   pub backward-backtracks : (dir ≡ 0 → ⊥) → Backtracks t dir up (midOf 2 (length p - 2) p) r q → Backtracks t dir n p (r + 2) (set (set (putMid 2 (length p - 2) p q) 0 v) 1 l)
   backward-backtracks z done =
-      let ws : List ℕ = words (directionOf dir) (nodesOf t) up in
+      let xs : List ℕ = words (directionOf dir) (nodesOf t) up in
       record {
         count = next-count b done;
         path =
             ap (λ (x : List ℕ). set (set (putMid 2 (length p - 2) p x) 0 v) 1 l) (done .path)
-            ∙ written-before ws p l v (two-words b)
-            ∙ ap (λ (d : Direction). written (moved d ws l v) p) (sym (backward-word dir z))
+            ∙ written-before xs p l v (two-words b)
+            ∙ ap (λ (d : Direction). written (moved d xs l v) p) (sym (backward-word dir z))
             ∙ ap (λ (x : List ℕ). written x p) (sym (parent-words b (directionOf dir)));
       }

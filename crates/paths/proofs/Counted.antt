@@ -4,10 +4,11 @@ use mathlib.Core.Path.{_≡_, ap, _∙_}
 use mathlib.Core.List.{List}
 use Prim.Native.Nat.{ℕ, _+_, _<_, _≤_}
 use native.Mathlib.Omega.{arith}
+use Rattle.layout.specs.Layout.{parentIn}
 use Rattle.model.specs.Path.{movesOf}
 use Rattle.paths.specs.Path.{nodesOf, Hung}
 use Rattle.paths.proofs.Steps.{root-moves}
-use Rattle.paths.proofs.Parents.{parentOf, hung-parent, hung-moves}
+use Rattle.paths.proofs.Parents.{hung-parent, hung-moves}
 
 -- from node n the way has come to node i in m moves
 pub record Counted (t : List ℕ) (n m i : ℕ) : Type 0 where
@@ -19,10 +20,10 @@ pub count-start : {t : List ℕ} {n : ℕ} → Hung t n → Counted t n 0 n
 count-start h = record { hung = h; moves = omega arith; few = omega arith }
 
 module _ {t : List ℕ} {n m i : ℕ} (k : Counted t n m i) where
-  pub count-less : {x j : ℕ} → 0 < i → x ≡ parentOf t i → j ≡ x → j < i
+  pub count-less : {x j : ℕ} → 0 < i → x ≡ parentIn t i → j ≡ x → j < i
   count-less pos e w = omega (arith, k .hung .parents i pos (omega arith))
 
-  pub count-turn : {x j : ℕ} → 0 < i → x ≡ parentOf t i → j ≡ x → Counted t n (m + 1) j
+  pub count-turn : {x j : ℕ} → 0 < i → x ≡ parentIn t i → j ≡ x → Counted t n (m + 1) j
   count-turn pos e w =
       let up = w ∙ e in
       record {

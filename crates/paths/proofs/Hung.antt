@@ -3,20 +3,20 @@
 use mathlib.Core.List.{List}
 use Prim.Native.Nat.{ℕ, _<_}
 use native.Mathlib.Omega.{arith}
-use lib.ListN.{getD}
 use Rattle.model.specs.Graph.{Domain}
 use Rattle.model.specs.Sound.{Sound}
 use Rattle.layout.specs.Read.{treeIn}
 use Rattle.layout.proofs.Trees.{tree-nodes, tree-node}
 use Rattle.tree.specs.Tree.{Formed}
 use Rattle.paths.specs.Path.{Hung}
+use Rattle.layout.specs.Layout.{usedIn}
 
-pub sound-hung : (d : Domain) (t : List ℕ) (l m n : ℕ) → Formed l t → Sound d (treeIn m l t) → n < getD t 1 0 → Hung t n
+pub sound-hung : (d : Domain) (t : List ℕ) (l m n : ℕ) → Formed l t → Sound d (treeIn m l t) → n < usedIn t → Hung t n
 sound-hung d t l m n f ok h =
     record {
       used = h;
       within = omega (arith, f .fits, f .used);
       parents = λ i pos le.
-          let at : i < getD t 1 0 = omega arith in
+          let at : i < usedIn t = omega arith in
           rw (tree-node m l t i at) at (ok .hangs i (omega arith) (rw (tree-nodes m l t) at) .lower);
     }

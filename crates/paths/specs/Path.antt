@@ -3,25 +3,26 @@
 use mathlib.Core.Path.{_≡_}
 use mathlib.Core.List.{List}
 use Prim.Native.Nat.{ℕ, _+_, _*_, _<_, _≤_}
-use lib.ListN.{length, getD, drop}
+use lib.ListN.{length}
 use Rattle.model.specs.Tree.{Node}
 use Rattle.model.specs.Path.{movesOf, words}
 use Rattle.model.specs.Calls.{written}
-use Rattle.layout.specs.Layout.{nodesAt, nodeAt}
+use Rattle.layout.specs.Layout.{headerWords, nodeAt, usedIn, parentIn}
 use Rattle.layout.specs.Read.{directionOf, nodesIn}
 
 -- the nodes that a tree's words hold
 abbrev pub nodesOf : List ℕ → List Node
-nodesOf t = nodesIn (getD t 1 0) (drop nodesAt t)
+nodesOf t = nodesIn (usedIn t) t
 
 -- node n is one of them, and from it on each parent's number is smaller
 pub record Hung (t : List ℕ) (n : ℕ) : Type 0 where
-  pub used : n < getD t 1 0
-  pub within : nodeAt (getD t 1 0) ≤ length t
-  pub parents : (i : ℕ) → 0 < i → i ≤ n → getD t (nodeAt i + 2) 0 < i
+  pub used : n < usedIn t
+  pub within : nodeAt (usedIn t) ≤ length t
+  pub parents : (i : ℕ) → 0 < i → i ≤ n → parentIn t i < i
 
--- room: a slice of k words has room for the path
-pub record CanBacktrack (t : List ℕ) (n k : ℕ) : Type 0 where
+-- ws: the cache's words; room: a slice of k words has room for the path
+pub record CanBacktrack (ws t : List ℕ) (n k : ℕ) : Type 0 where
+  pub header : headerWords ≤ length ws
   pub hung : Hung t n
   pub room : 1 + 2 * movesOf (nodesOf t) n ≤ k
 

@@ -3,6 +3,7 @@ use layout::wide;
 ghost use mathlib.Core.Path.{_≡_};
 ghost use lib.ListN.{length};
 ghost use Rattle.model.specs.Path.{movesOf};
+ghost use Rattle.layout.specs.Layout.{directionIn};
 ghost use Rattle.paths.specs.Path.{nodesOf, Hung, CanBacktrack, Backtracks};
 
 // How many edges lead from the root to a node.
@@ -13,33 +14,33 @@ pub fn moves(tree: &[u32], node: usize) -> usize
     let mut moves = 0;
     let mut at = node;
     while 0 < at {
-        at = wide(layout::node_word(tree, at, layout::NODE_PARENT));
+        at = wide(layout::node_parent(tree, at));
         moves += 1;
     }
     moves
 }
 
-// Writes the words of the path to a node, and answers how many they are. The parent's path comes first; in a backward tree it
+// Writes the words of the path to a node of a cache's tree, and answers how many they are. The parent's path comes first; in a backward tree it
 // stands two words further on, since the path runs from the node to the root.
-pub fn backtrack(tree: &[u32], direction: u32, node: usize, path: &mut [u32]) -> usize
-    requires { ⌜ CanBacktrack (now tree) node (length (now path)) ⌝ }
-    ensures { λ r. ⌜ Backtracks (now (tree .entry)) direction node (now (path .entry)) r (now (path .exit)) ⌝ }
+pub fn backtrack(words: &[u32], tree: &[u32], node: usize, path: &mut [u32]) -> usize
+    requires { ⌜ CanBacktrack (now words) (now tree) node (length (now path)) ⌝ }
+    ensures { λ r. ⌜ Backtracks (now (tree .entry)) (directionIn (now (words .entry))) node (now (path .entry)) r (now (path .exit)) ⌝ }
 {
-    let vertex = layout::node_word(tree, node, layout::NODE_VERTEX);
+    let vertex = layout::node_vertex(words, tree, node);
     if node == 0 {
         path[0] = vertex;
         return 1;
     }
-    let parent = wide(layout::node_word(tree, node, layout::NODE_PARENT));
-    let edge = layout::node_word(tree, node, layout::NODE_EDGE);
-    if direction == 0 {
-        let written = backtrack(tree, direction, parent, path);
+    let parent = wide(layout::node_parent(tree, node));
+    let edge = layout::node_edge(tree, node);
+    if words[layout::DIRECTION] == 0 {
+        let written = backtrack(words, tree, parent, path);
         path[written] = edge;
         path[written + 1] = vertex;
         return written + 2;
     }
     let end = path.len();
-    let written = backtrack(tree, direction, parent, &mut path[2..end]);
+    let written = backtrack(words, tree, parent, &mut path[2..end]);
     path[0] = vertex;
     path[1] = edge;
     written + 2

@@ -1,4 +1,4 @@
--- A call of `solve` in lists of calls: the search's own steps in its chain, and calls of `step` between those of others.
+-- A call of `solve` in lists of calls: the search's own steps in its chain, and calls of `step` anywhere.
 -- Assumes nothing.
 use mathlib.Core.Path.{_≡_, refl, sym, ap, _∙_, subst}
 use mathlib.Core.Bool.{Bool}
@@ -11,11 +11,13 @@ use lib.ListN.{length, replicate, length-append, length-replicate}
 use Rattle.model.specs.declared.Search.{Search}
 use Rattle.model.specs.Answers.{answered, waiting, stepReply}
 use Rattle.model.specs.Solve.{isWaiting}
-use Rattle.model.proofs.Solve.{is-waiting}
-use Rattle.model.specs.Demands.{Call, stepping as steppingCall, Act, ownStep, Event, stepped}
-use Rattle.dijkstra.specs.Demands.{MadeAll, none-made, and-then, made-step, Chain, own-step}
-use Rattle.planner.specs.Solve.{Waited, at-first, once-more, all-wait, one-ends, lastIf, InChains, BetweenCalls}
-use Rattle.planner.proofs.Last.{last-cases}
+use Rattle.model.specs.declared.StepsTaken.{StepsTaken}
+use Rattle.model.proofs.Solve.{is-waiting, last-cases}
+use Rattle.model.specs.Demands.{Act, ownStep, Event, stepped}
+use Rattle.unchecked.specs.Solve.{Waited, at-first, once-more, all-wait, one-ends}
+use Rattle.dijkstra.specs.Calls.{Stepping}
+use Rattle.dijkstra.specs.Demands.{Made, made-step, made-reading, made-both, Chain, own-step}
+use Rattle.planner.specs.Solve.{StepsCalled, waitsCall, solvingCall, InLists, lastIf, InChains}
 use Rattle.planner.proofs.Waits.{rested}
 
 -- ---- in the search's chain
@@ -31,7 +33,7 @@ module _ {ws : List ℕ} {s : Search} where
   chain-as : {acts acts′ : List Act} {es es′ : List Event} → acts ≡ acts′ → es ≡ es′ → Chain ws s acts es → Chain ws s acts′ es′
   chain-as {acts} {acts′} {es} {es′} a e k = subst (λ (l : List Event). Chain ws s acts′ l) e (subst (λ (l : List Act). Chain ws s l es) a k)
 
-  waits-chain : {w t : ℕ} {mid : List ℕ} {x : Search} → Waited ws s w t mid x → {acts : List Act} {es : List Event} → Chain mid x acts es
+  waits-chain : {w t : ℕ} {mid : List ℕ} {x : Search} → Waited Stepping ws s w t mid x → {acts : List Act} {es : List Event} → Chain mid x acts es
       → Chain ws s (replicate w ownStep ++ acts) (waits w ++ es)
   waits-chain at-first k = k
   waits-chain (once-more {w = w} r v p e) {acts} {es} k =
@@ -44,7 +46,7 @@ own-steps : (es : List Event) (n : ℕ) → length es ≡ n → (acts : List Act
 own-steps es n e acts = ap (λ (k : ℕ). replicate k ownStep ++ acts) (sym e)
 
 -- w steps that waited are a chain's own
-all-waited : (w : ℕ) {ws left : List ℕ} {s x : Search} {t : ℕ} → Waited ws s w t left x → {acts : List Act} {es : List Event} → Chain left x acts es
+all-waited : (w : ℕ) {ws left : List ℕ} {s x : Search} {t : ℕ} → Waited Stepping ws s w t left x → {acts : List Act} {es : List Event} → Chain left x acts es
     → (last : List Event) → last ≡ [] → Chain ws s (replicate (length (waits w ++ last)) ownStep ++ acts) ((waits w ++ last) ++ es)
 all-waited w v {acts} {es} k last none =
     let all : waits w ++ last ≡ waits w = ap (λ (l : List Event). waits w ++ l) none ∙ append-nil (waits w) in
@@ -71,13 +73,15 @@ in-chains ws s n r left acts es (one-ends {w = w} {mid = mid} {x = x} q a below 
       (ap (λ (b : Bool). lastIf b (stepped (stepReply a))) (ap isWaiting (told ∙ kept .1)))
 ]
 
--- ---- between the calls of others
+-- ---- in any list of calls
 
-waits-made : {ws : List ℕ} {s : Search} {w t : ℕ} {mid left : List ℕ} {x : Search} → Waited ws s w t mid x → (xs : List Call) → MadeAll mid xs left
-    → (ys : List Call) × MadeAll ws ys left
-waits-made at-first xs m = (xs, m)
-waits-made (once-more {x = x} r v p e) xs m = waits-made v (steppingCall x ∷ xs) (and-then (made-step x r p) m)
+waits-made : {ws : List ℕ} {s : Search} {w t : ℕ} {mid : List ℕ} {x : Search} (v : Waited Stepping ws s w t mid x) → Made ws (waitsCall v) mid
+waits-made at-first = made-reading
+waits-made (once-more {x = x} r v p e) = made-both (waits-made v) (made-step x r p)
 
-pub between-calls : BetweenCalls
-between-calls ws s n r left (all-wait v z) = waits-made v [] none-made
-between-calls ws s n r left (one-ends {x = x} q a below v p e told) = waits-made v (steppingCall x ∷ []) (and-then (made-step x q p) none-made)
+steps-made : {ws : List ℕ} {s : Search} {n : ℕ} {r : StepsTaken} {left : List ℕ} (k : StepsCalled ws s n r left) → Made ws (solvingCall k) left
+steps-made (all-wait v z) = waits-made v
+steps-made (one-ends {x = x} r a below v p e told) = made-both (waits-made v) (made-step x r p)
+
+pub in-lists : InLists
+in-lists ws s n r left p = steps-made (p .called)

@@ -10,10 +10,11 @@ use Rattle.model.specs.declared.Search.{Search}
 use Rattle.model.specs.Answers.{refused, waiting, number, stepReply}
 use Rattle.model.proofs.Replies.{answered-refused, step-told}
 use Rattle.dijkstra.proofs.Demand1 as calls
-use Rattle.planner.specs.declared.StepsTaken.{StepsTaken}
-use Rattle.planner.specs.Solve.{StepsCalled, all-wait, one-ends, Demand1}
-use Rattle.planner.proofs.Last.{refused-first}
-use Rattle.planner.proofs.Waits.{unmoved}
+use Rattle.model.specs.declared.StepsTaken.{StepsTaken}
+use Rattle.unchecked.specs.Solve.{all-wait, one-ends}
+use Rattle.planner.specs.Solve.{StepsCalled, Demand1}
+use Rattle.model.proofs.Solve.{refused-first}
+use Rattle.unchecked.proofs.Waits.{unmoved}
 
 module _ {ws : List ℕ} {s : Search} {n : ℕ} (f : Refusal) (line : ℕ) where
   called-leaves : {r : StepsTaken} {left : List ℕ} → StepsCalled ws s n r left → stepReply (r .answer) ≡ refused (number f) line

@@ -17,8 +17,9 @@ use Rattle.layout.specs.Sound.{soundWordsb}
 use Rattle.dijkstra.specs.Demands.{QueueWord}
 use Rattle.dijkstra.proofs.Histories.{step-is}
 use Rattle.dijkstra.proofs.Determined.{same-word, apart-word, entries-in-use}
-use Rattle.planner.specs.declared.StepsTaken.{StepsTaken}
-use Rattle.planner.specs.Solve.{solveIf, solveWords, LeavesAfter, Determined}
+use Rattle.model.specs.declared.StepsTaken.{StepsTaken}
+use Rattle.unchecked.specs.Solve.{LeavesAfter}
+use Rattle.planner.specs.Solve.{solveIf, solveWords, Determined}
 
 -- ---- some step waited: so did the first, on sound words
 

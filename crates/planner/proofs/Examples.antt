@@ -12,6 +12,7 @@ use Rattle.model.specs.declared.Search.{Search}
 use Rattle.model.specs.Answers.{Reply, answered, refused, Status, waiting, solved}
 use Rattle.model.specs.Path.{path}
 use Rattle.model.specs.Solve.{AfterSteps, solve}
+use Rattle.model.specs.Worth.{solutionCostOf}
 use Rattle.model.specs.Graph.{Graph, forward, absent}
 use Rattle.model.specs.Search.{blank, withEntry}
 use Rattle.model.specs.Calls.{opened, initialize}
@@ -25,19 +26,19 @@ abbrev told : AfterSteps → Reply Status × ℕ × ℕ
 told r = (r .reply, r .waits, r .tickets)
 
 answers : told (solveWords words0 search0 9) ≡ (answered (solved 7 2), 2, 4)
-unfolding soundWordsb readCache words0 search0 solve path
+unfolding soundWordsb readCache words0 search0 solve path solutionCostOf
 answers = refl
 
 third-answers : told (solveWords words0 search0 3) ≡ (answered (solved 7 2), 2, 4)
-unfolding soundWordsb readCache words0 search0 solve path
+unfolding soundWordsb readCache words0 search0 solve path solutionCostOf
 third-answers = refl
 
 two-wait : told (solveWords words0 search0 2) ≡ (answered waiting, 2, 4)
-unfolding soundWordsb readCache words0 search0 solve
+unfolding soundWordsb readCache words0 search0 solve solutionCostOf
 two-wait = refl
 
 one-waits : told (solveWords words0 search0 1) ≡ (answered waiting, 1, 3)
-unfolding soundWordsb readCache words0 search0 solve
+unfolding soundWordsb readCache words0 search0 solve solutionCostOf
 one-waits = refl
 
 no-steps : told (solveWords words0 search0 0) ≡ (answered waiting, 0, 0)
@@ -58,7 +59,7 @@ finished0 : Search
 finished0 = solveWords words0 search0 2 .search
 
 no-steps-finished : told (solve 0 (solveWords words0 search0 2 .cache) finished0) ≡ (answered (solved 7 2), 0, 0)
-unfolding soundWordsb readCache words0 search0 finished0 solve path
+unfolding soundWordsb readCache words0 search0 finished0 solve path solutionCostOf
 no-steps-finished = refl
 
 no-steps-invalid : told (solveWords words0 (withEntry search0 1) 0) ≡ (refused 8 0, 0, 0)
@@ -89,13 +90,13 @@ strange =
 
 -- what was done is told as waiting, with the record as it then is; and the next call is refused
 refused-later : told (solve 2 (stepped-once .cache) strange) ≡ (answered waiting, 1, 1)
-unfolding stepped-once line3 opened initialize solve strange
+unfolding stepped-once line3 opened initialize solve strange solutionCostOf
 refused-later = refl
 
 left-finished : solve 2 (stepped-once .cache) strange .search .exhausted ≡ true
-unfolding stepped-once line3 opened initialize solve strange
+unfolding stepped-once line3 opened initialize solve strange solutionCostOf
 left-finished = refl
 
 refused-next : let r = solve 2 (stepped-once .cache) strange in told (solve 2 (r .cache) (r .search)) ≡ (refused 8 0, 0, 0)
-unfolding stepped-once line3 opened initialize solve strange
+unfolding stepped-once line3 opened initialize solve strange solutionCostOf
 refused-next = refl

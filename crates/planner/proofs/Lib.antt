@@ -1,8 +1,6 @@
 -- Laws that belong to no one function.
-pub mod Last
 pub mod Waits
 pub mod Solved
-pub mod Underway
 pub mod Chains
 pub mod Determined
 pub mod Demand1

@@ -4,24 +4,21 @@
 use mathlib.Core.Path.{_≡_}
 use mathlib.Core.Bool.{Bool, true, false}
 use mathlib.Core.List.{List, [], _∷_, _++_}
-use Prim.Native.Nat.{ℕ, zero, suc, _+_, _-_, _≤_}
+use Prim.Native.Nat.{ℕ}
 use lib.ListN.{length, replicate}
 use Rattle.model.specs.declared.Refusal.{Refusal}
-use Rattle.model.specs.declared.SearchStatus.the-variants.{Incomplete}
-use Rattle.model.specs.declared.StepAnswer.{StepAnswer}
 use Rattle.model.specs.declared.StepAnswer.the-variants as stepping
 use Rattle.model.specs.declared.Search.{Search}
-use Rattle.model.specs.declared.Stepped.{Stepped}
+use Rattle.model.specs.declared.StepsTaken.{StepsTaken}
 use Rattle.model.specs.Answers.{answered, refused, waiting, stepReply}
 use Rattle.model.specs.Calls.{Cache}
-use Rattle.model.specs.Solve.{isWaiting, lastReply, AfterSteps, solve}
-use Rattle.model.specs.Demands.{Call, Act, ownStep, Event, stepped}
+use Rattle.model.specs.Solve.{isWaiting, AfterSteps, solve}
+use Rattle.model.specs.Demands.{Call, stepping as steppingCall, reading, both, Act, ownStep, Event, stepped}
 use Rattle.layout.specs.Read.{readCache}
 use Rattle.layout.specs.Sound.{soundWordsb}
-use Rattle.turn.specs.Turn.{Apart}
+use Rattle.unchecked.specs.Solve.{Waited, at-first, once-more, StepsMade, all-wait, one-ends, LeavesAfter}
 use Rattle.dijkstra.specs.Calls.{stepWords, Stepping}
-use Rattle.dijkstra.specs.Demands.{MadeAll, Chain, SameBut}
-use Rattle.planner.specs.declared.StepsTaken.{StepsTaken}
+use Rattle.dijkstra.specs.Demands.{Made, Chain, SameBut}
 
 -- ---- on the cache that the words hold
 
@@ -35,27 +32,11 @@ solveWords ws s n = solveIf (soundWordsb ws) n (readCache ws) s
 
 -- ---- the steps, on the words: each is known by nothing but the promise of `step`
 
--- w steps that waited, from the words ws and the record s to the words and the record here, and their tickets
-pub data Waited (ws : List ℕ) (s : Search) : ℕ → ℕ → List ℕ → Search → Type 0 where
-  at-first : Waited ws s 0 0 ws s
-  once-more : {w t : ℕ} {mid left : List ℕ} {x : Search} (r : Stepped) → Waited ws s w t mid x → Stepping mid x r left
-      → isWaiting (stepReply (r .answer)) ≡ true → Waited ws s (w + 1) (t + r .tickets) left (r .search)
-
--- n steps all waited, and where n is 0 one would wait; or fewer did, and the one after them did not wait. With no steps this one is not called: it
--- is the call that would answer so
-pub data StepsCalled (ws : List ℕ) (s : Search) (n : ℕ) : StepsTaken → List ℕ → Type 0 where
-  all-wait : {t : ℕ} {left : List ℕ} {x : Search} → Waited ws s n t left x → (n ≡ 0 → isWaiting (stepWords ws s .reply) ≡ true)
-      → StepsCalled ws s n (record { answer = stepping.Status Incomplete; waits = n; tickets = t; search = x }) left
-  one-ends : {w t : ℕ} {mid left : List ℕ} {x : Search} (r : Stepped) (a : StepAnswer) → w ≤ n - 1 → Waited ws s w t mid x → Stepping mid x r left
-      → isWaiting (stepReply (r .answer)) ≡ false → stepReply a ≡ lastReply w (stepReply (r .answer))
-      → StepsCalled ws s n (record { answer = a; waits = w; tickets = t + r .tickets; search = r .search }) left
+-- n steps all waited; or fewer did, and the one after them did not wait
+abbrev pub StepsCalled : List ℕ → Search → ℕ → StepsTaken → List ℕ → Type 0
+StepsCalled ws s n r left = StepsMade Stepping (stepWords ws s .reply) ws s n r left
 
 -- ---- the promise
-
--- where no step waited no word was written; otherwise those outside of the entries' slots stay
-abbrev pub LeavesAfter : ℕ → List ℕ → Search → List ℕ → Type 0
-LeavesAfter zero ws s left = left ≡ ws
-LeavesAfter (suc w) ws s left = Apart ws s left
 
 -- answer, waits and tickets summed, the record, and the cache that the words left hold. What is free is the arrangement of the
 -- queue words in the slots of the entries, as for `step`.
@@ -89,7 +70,21 @@ Determined =
     (ws : List ℕ) (s : Search) (n : ℕ) (r r′ : StepsTaken) (left left′ : List ℕ) → Solving ws s n r left → Solving ws s n r′ left′
     → (r ≡ r′) × SameBut ws s left left′
 
--- the own steps that a call of `solve` stands for, and what they answered
+-- ---- in lists of calls: the demands hold of lists with `solve` among their calls
+
+-- what it is as one call on the words: its steps
+abbrev pub waitsCall : {ws : List ℕ} {s : Search} {w t : ℕ} {mid : List ℕ} {x : Search} → Waited Stepping ws s w t mid x → Call
+waitsCall at-first = reading
+waitsCall (once-more {x = x} r v p e) = both (waitsCall v) (steppingCall x)
+
+abbrev pub solvingCall : {ws : List ℕ} {s : Search} {n : ℕ} {r : StepsTaken} {left : List ℕ} → StepsCalled ws s n r left → Call
+solvingCall (all-wait v z) = waitsCall v
+solvingCall (one-ends {x = x} r a below v p e told) = both (waitsCall v) (steppingCall x)
+
+abbrev pub InLists : Type 0
+InLists = (ws : List ℕ) (s : Search) (n : ℕ) (r : StepsTaken) (left : List ℕ) (p : Solving ws s n r left) → Made ws (solvingCall (p .called)) left
+
+-- the own steps that it stands for in the search's chain, and what they answered
 abbrev pub lastIf : Bool → Event → List Event
 lastIf true e = []
 lastIf false e = e ∷ []
@@ -102,12 +97,7 @@ eventsOf r =
 abbrev pub actsOf : StepsTaken → List Act
 actsOf r = replicate (length (eventsOf r)) ownStep
 
--- in a search's chain a call of `solve` is its own steps, and between the own calls of others it is calls of `step`: the demands hold of lists
--- of calls with `solve` among them
 abbrev pub InChains : Type 0
 InChains =
     (ws : List ℕ) (s : Search) (n : ℕ) (r : StepsTaken) (left : List ℕ) (acts : List Act) (es : List Event)
     → StepsCalled ws s n r left → Chain left (r .search) acts es → Chain ws s (actsOf r ++ acts) (eventsOf r ++ es)
-
-abbrev pub BetweenCalls : Type 0
-BetweenCalls = (ws : List ℕ) (s : Search) (n : ℕ) (r : StepsTaken) (left : List ℕ) → StepsCalled ws s n r left → (xs : List Call) × MadeAll ws xs left

@@ -1,4 +1,4 @@
 // 01's order sheet: the chart and the orders of the current folder.
 fn main() {
-    run_sheet::files::run_files(b"chart.txt", b"orders.txt");
+    order_sheet::files::run_files(b"chart.txt", b"orders.txt");
 }

@@ -1,28 +1,25 @@
-// The lines on the words of one direction: the library's calls, and looks at the words. A side is 0 for the forward words and
-// 1 for the backward ones; a call gets the first of them, as many as are lent.
-use crate::fields::Fields;
-use crate::fields::List;
-use crate::fields::MAX_NUMBER;
-use crate::fields::is;
-use crate::fields::read_list;
-use crate::fields::word;
-use crate::print::print;
-use crate::print::print_named;
-use crate::print::print_opened_cache;
-use crate::print::print_opened_search;
-use crate::print::print_refusal;
-use crate::print::print_stepped;
-use crate::print::print_words;
-use crate::state::RECORDS;
-use crate::state::State;
+// The lines on the words of one direction: the library's calls, and looks at the words.
 use crate::state::WORDS;
-use crate::state::least;
 use crate::sum::sum;
 use model::InitializeAnswer;
 use model::RetraceAnswer;
 use model::Search;
-use model::Stepped;
-ghost use Prim.Native.Nat.{_<_};
+use order_lines::orders::Numbers;
+use script_lines::fields::Call;
+use script_lines::fields::read_numbers;
+use script_lines::names::Name;
+use script_lines::print::print;
+use script_lines::print::print_named;
+use script_lines::print::print_no_form;
+use script_lines::print::print_opened_cache;
+use script_lines::print::print_opened_search;
+use script_lines::print::print_refusal;
+use script_lines::print::print_stepped;
+use script_lines::print::print_words;
+use text::bytes::capped;
+use text::bytes::least;
+use text::fields::Fields;
+use text::fields::MAX_NUMBER;
 
 // What an untouched word holds.
 const UNTOUCHED: u32 = 7;
@@ -32,200 +29,177 @@ const RUN: usize = 4096;
 
 const MAX_MOVES: usize = 2047;
 
-pub fn on_words(
-    name: &[u8],
-    line: &[u8],
-    f: Fields,
-    side: usize,
-    state: State,
-    chart: &[u8],
-    words: &mut [u32; 16384],
-    run: &mut [u32; 4096],
-) -> State
-    requires { ⌜ side < 2 ⌝ }
-{
-    if is(name, b"book") {
-        return book(f, side, state, chart, words);
+// Answers how many words are lent from now on.
+pub fn on_words(call: Call, lent: usize, chart: &[u8], words: &mut [u32; 16384]) -> usize {
+    let f = call.fields;
+    let name = call.name;
+    match name {
+        Name::Book => book(f, call.side, lent, chart, words),
+        Name::As => book_as(f, lent, chart, words),
+        Name::Lend => lend(f, lent),
+        Name::Poke => {
+            poke(f, words);
+            lent
+        }
+        Name::Words => {
+            show(f, words);
+            lent
+        }
+        Name::Sum => {
+            show_sum(f, lent, words);
+            lent
+        }
+        _ => {
+            print_no_form();
+            lent
+        }
     }
-    if is(name, b"as") {
-        return book_as(f, side, state, chart, words);
-    }
-    if is(name, b"lend") {
-        return lend(f, side, state);
-    }
-    if is(name, b"poke") {
-        return poke(f, state, words);
-    }
-    if is(name, b"words") {
-        return show(f, state, words);
-    }
-    let lent = state.lent[side];
-    if is(name, b"sum") {
-        return show_sum(f, state, lent, words);
-    }
-    on_lent(name, line, f, state, lent, words, run)
 }
 
-fn on_lent(
-    name: &[u8],
-    line: &[u8],
-    f: Fields,
-    state: State,
-    lent: usize,
-    words: &mut [u32],
-    run: &mut [u32; 4096],
-) -> State {
-    let k = f.values[2];
-    if RECORDS <= k {
-        return state.passed_over();
+fn book(f: Fields, side: usize, lent: usize, chart: &[u8], words: &mut [u32; 16384]) -> usize {
+    if f.count != 3 {
+        print_no_form();
+        return lent;
     }
-    let end = least(lent, words.len());
-    if is(name, b"open") {
-        return open(line, f, state, k, &mut words[0..end]);
-    }
-    if is(name, b"step") {
-        return step(f, state, k, &mut words[0..end]);
-    }
-    if is(name, b"lent") {
-        return step_lent(f, state, k, &mut words[0..end]);
-    }
-    if is(name, b"retrace") {
-        return retrace(f, state, k, &words[0..end], run);
-    }
-    state.passed_over()
-}
-
-fn book(f: Fields, side: usize, state: State, chart: &[u8], words: &mut [u32; 16384]) -> State
-    requires { ⌜ side < 2 ⌝ }
-{
-    if f.count != 4 {
-        return state.passed_over();
-    }
-    let slots = f.values[2];
-    let lent = f.values[3];
-    open_cache(word(side), slots, lent, side, state, chart, words)
+    open_cache(side, f.values[1], f.values[2], lent, chart, words)
 }
 
 // With any number as direction.
-fn book_as(f: Fields, side: usize, state: State, chart: &[u8], words: &mut [u32; 16384]) -> State
-    requires { ⌜ side < 2 ⌝ }
-{
-    let direction = f.values[2];
-    if f.count != 5 {
-        return state.passed_over();
+fn book_as(f: Fields, lent: usize, chart: &[u8], words: &mut [u32; 16384]) -> usize {
+    if f.count != 4 {
+        print_no_form();
+        return lent;
     }
-    if MAX_NUMBER < direction {
-        return state.passed_over();
-    }
-    let slots = f.values[3];
-    let lent = f.values[4];
-    open_cache(word(direction), slots, lent, side, state, chart, words)
+    open_cache(f.values[1], f.values[2], f.values[3], lent, chart, words)
 }
 
+// With so many words lent, where there are as many.
 fn open_cache(
-    direction: u32,
+    direction: usize,
     slots: usize,
+    count: usize,
     lent: usize,
-    side: usize,
-    state: State,
     chart: &[u8],
     words: &mut [u32; 16384],
-) -> State
-    requires { ⌜ side < 2 ⌝ }
-{
-    if MAX_NUMBER < slots {
-        return state.passed_over();
+) -> usize {
+    if can_open(direction, slots, count) {
+        *words = [UNTOUCHED; WORDS];
+        open_lent(words, count, chart, capped(direction), slots);
+        return count;
     }
-    if WORDS < lent {
-        return state.passed_over();
-    }
-    *words = [UNTOUCHED; WORDS];
-    open_lent(words, lent, chart, direction, slots);
-    state.with_lent(side, lent)
+    print_no_form();
+    lent
 }
 
-fn open_lent(words: &mut [u32], lent: usize, chart: &[u8], direction: u32, slots: usize) {
-    let end = least(lent, words.len());
+fn can_open(direction: usize, slots: usize, count: usize) -> bool {
+    if MAX_NUMBER < direction {
+        return false;
+    }
+    if MAX_NUMBER < slots {
+        return false;
+    }
+    count <= WORDS
+}
+
+fn open_lent(words: &mut [u32], count: usize, chart: &[u8], direction: u32, slots: usize) {
+    let end = least(count, words.len());
     let answer = cache::open(&mut words[0..end], chart, direction, slots);
     print_opened_cache(answer);
 }
 
-fn lend(f: Fields, side: usize, state: State) -> State
-    requires { ⌜ side < 2 ⌝ }
-{
-    let lent = f.values[2];
+fn lend(f: Fields, lent: usize) -> usize {
+    let count = f.values[1];
+    if f.count == 2 {
+        if count <= WORDS {
+            print_named(b"lent", count);
+            return count;
+        }
+    }
+    print_no_form();
+    lent
+}
+
+fn poke(f: Fields, words: &mut [u32]) {
+    let i = f.values[1];
+    let value = f.values[2];
+    if f.count == 3 {
+        if value <= MAX_NUMBER {
+            if i < words.len() {
+                words[i] = capped(value);
+                print(b"poked\n");
+                return;
+            }
+        }
+    }
+    print_no_form();
+}
+
+fn show(f: Fields, words: &[u32]) {
+    if are_two_numbers(f) {
+        let at = least(f.values[1], words.len());
+        let count = least(f.values[2], words.len() - at);
+        let end = at + count;
+        print_words(b"words", &words[at..end]);
+        return;
+    }
+    print_no_form();
+}
+
+// Behind the direction.
+fn are_two_numbers(f: Fields) -> bool {
     if f.count != 3 {
-        return state.passed_over();
+        return false;
     }
-    if WORDS < lent {
-        return state.passed_over();
+    if MAX_NUMBER < f.values[1] {
+        return false;
     }
-    print_named(b"lent", lent);
-    state.with_lent(side, lent)
+    f.values[2] <= MAX_NUMBER
 }
 
-fn poke(f: Fields, state: State, words: &mut [u32]) -> State {
-    let i = f.values[2];
-    let value = f.values[3];
-    if f.count != 4 {
-        return state.passed_over();
+fn show_sum(f: Fields, lent: usize, words: &[u32; 16384]) {
+    if f.count == 1 {
+        print_named(b"sum", sum(words, lent));
+        return;
     }
-    if words.len() <= i {
-        return state.passed_over();
-    }
-    if MAX_NUMBER < value {
-        return state.passed_over();
-    }
-    words[i] = word(value);
-    print(b"poked\n");
-    state
+    print_no_form();
 }
 
-fn show(f: Fields, state: State, words: &[u32]) -> State {
-    if f.count != 4 {
-        return state.passed_over();
+// A call with a record, which comes back as the call leaves it.
+pub fn on_search(
+    line: &[u8],
+    call: Call,
+    record: Search,
+    words: &mut [u32],
+    run: &mut [u32; 4096],
+) -> Search {
+    let f = call.fields;
+    let name = call.name;
+    match name {
+        Name::Open => open(line, f, record, words),
+        Name::Step => step(f, record, words),
+        Name::Lent => step_lent(f, record, words),
+        _ => {
+            retrace(f, record, words, run);
+            record
+        }
     }
-    if MAX_NUMBER < f.values[2] {
-        return state.passed_over();
-    }
-    if MAX_NUMBER < f.values[3] {
-        return state.passed_over();
-    }
-    let at = least(f.values[2], words.len());
-    let count = least(f.values[3], words.len() - at);
-    let end = at + count;
-    print_words(b"words", &words[at..end]);
-    state
 }
 
-fn show_sum(f: Fields, state: State, lent: usize, words: &[u32; 16384]) -> State {
-    if f.count != 2 {
-        return state.passed_over();
+fn open(line: &[u8], f: Fields, record: Search, words: &mut [u32]) -> Search {
+    let starts = read_numbers(line, 3);
+    let goals = read_numbers(line, 4);
+    if f.count == 4 {
+        if starts.legal {
+            if goals.legal {
+                return open_search(starts, goals, record, words);
+            }
+        }
     }
-    print_named(b"sum", sum(words, lent));
-    state
+    print_no_form();
+    record
 }
 
-fn open(line: &[u8], f: Fields, state: State, k: usize, words: &mut [u32]) -> State
-    requires { ⌜ k < 8 ⌝ }
-{
-    if f.count != 5 {
-        return state.passed_over();
-    }
-    let starts = read_list(line, f.at[3]);
-    let goals = read_list(line, f.at[4]);
-    if !starts.legal {
-        return state.passed_over();
-    }
-    if !goals.legal {
-        return state.passed_over();
-    }
-    open_search(starts, goals, state, k, words)
-}
-
-fn open_search(starts: List, goals: List, state: State, k: usize, words: &mut [u32]) -> State
-    requires { ⌜ k < 8 ⌝ }
-{
+fn open_search(starts: Numbers, goals: Numbers, record: Search, words: &mut [u32]) -> Search {
     let from = starts.numbers;
     let from_all = &from[..];
     let m = least(starts.count, from_all.len());
@@ -236,54 +210,45 @@ fn open_search(starts: List, goals: List, state: State, k: usize, words: &mut [u
     let answer = opened.answer;
     print_opened_search(answer);
     let InitializeAnswer::Initialized = answer else {
-        return state;
+        return record;
     };
-    let record = opened.search;
-    state.with_record(k, record)
+    let search = opened.search;
+    search
 }
 
-fn step(f: Fields, state: State, k: usize, words: &mut [u32]) -> State
-    requires { ⌜ k < 8 ⌝ }
-{
-    if f.count != 3 {
-        return state.passed_over();
+fn step(f: Fields, record: Search, words: &mut [u32]) -> Search {
+    if f.count != 2 {
+        print_no_form();
+        return record;
     }
-    let stepped = dijkstra::step(words, state.records[k]);
-    keep_stepped(state, k, stepped)
+    let stepped = dijkstra::step(words, record);
+    print_stepped(stepped);
+    let search = stepped.search;
+    search
 }
 
 // Through the entry that is lent the record.
-fn step_lent(f: Fields, state: State, k: usize, words: &mut [u32]) -> State
-    requires { ⌜ k < 8 ⌝ }
-{
-    if f.count != 3 {
-        return state.passed_over();
+fn step_lent(f: Fields, record: Search, words: &mut [u32]) -> Search {
+    if f.count != 2 {
+        print_no_form();
+        return record;
     }
-    let stepped = lent::step_lent(words, state.records[k]);
-    keep_stepped(state, k, stepped)
-}
-
-fn keep_stepped(state: State, k: usize, stepped: Stepped) -> State
-    requires { ⌜ k < 8 ⌝ }
-{
+    let stepped = in_place::step_lent(words, record);
     print_stepped(stepped);
-    let record = stepped.search;
-    state.with_record(k, record)
+    let search = stepped.search;
+    search
 }
 
-fn retrace(f: Fields, state: State, k: usize, words: &[u32], run: &mut [u32; 4096]) -> State
-    requires { ⌜ k < 8 ⌝ }
-{
-    let lent = f.values[3];
-    if f.count != 4 {
-        return state.passed_over();
+fn retrace(f: Fields, record: Search, words: &[u32], run: &mut [u32; 4096]) {
+    let lent = f.values[2];
+    if f.count == 3 {
+        if lent <= RUN {
+            *run = [UNTOUCHED; RUN];
+            retrace_lent(words, record, run, lent);
+            return;
+        }
     }
-    if RUN < lent {
-        return state.passed_over();
-    }
-    *run = [UNTOUCHED; RUN];
-    retrace_lent(words, state.records[k], run, lent);
-    state
+    print_no_form();
 }
 
 fn retrace_lent(words: &[u32], record: Search, run: &mut [u32], lent: usize) {

@@ -1,32 +1,31 @@
 // Lists of calls from a script: each line of standard input is a call of the library, or a look at what the calls left, and
 // prints one line. A line that has none of the forms prints `?` and is passed over.
 mod calls;
-mod fields;
-mod input;
-mod print;
-mod records;
 mod state;
 mod sum;
 
+use crate::calls::on_search;
 use crate::calls::on_words;
-use crate::fields::BACKWARD;
-use crate::fields::FORWARD;
-use crate::fields::Fields;
-use crate::fields::MAX_NUMBER;
-use crate::fields::OTHER;
-use crate::fields::is;
-use crate::fields::read_fields;
-use crate::fields::until;
-use crate::input::Input;
-use crate::input::Lines;
-use crate::input::MAX_BYTES;
-use crate::input::read_line;
-use crate::input::read_lines;
-use crate::print::print_named;
-use crate::print::print_words;
-use crate::records::on_record;
+use crate::state::RECORDS;
 use crate::state::State;
-use crate::state::least;
+use script_lines::fields::Call;
+use script_lines::fields::read_call;
+use script_lines::input::Input;
+use script_lines::input::Lines;
+use script_lines::input::MAX_BYTES;
+use script_lines::input::read_line;
+use script_lines::input::read_lines;
+use script_lines::names::Name;
+use script_lines::print::print;
+use script_lines::print::print_named;
+use script_lines::print::print_no_form;
+use script_lines::print::print_words;
+use script_lines::records::on_record;
+use text::bytes::least;
+use text::fields::Fields;
+use text::fields::MAX_NUMBER;
+use text::fields::OTHER;
+ghost use Prim.Native.Nat.{_<_};
 
 // Standard input is the script.
 pub fn run() {
@@ -67,37 +66,52 @@ fn replay(
             return;
         }
         input = next.input;
-        let count = chart_lines(line, next.length);
+        let call = call_in(line, next.length);
+        let count = chart_lines(call);
         if count <= MAX_NUMBER {
             let read = read_lines(buffer, text, input, count);
             input = read.input;
             state = keep(read, text, chart, state);
         } else {
-            state = on_line(line, next.length, state, chart, forward, backward, run);
+            state = on_line(
+                line,
+                next.length,
+                call,
+                state,
+                chart,
+                forward,
+                backward,
+                run,
+            );
         }
         lines += 1;
     }
 }
 
-// How many lines of a chart text follow, or a mark if the line does not say that.
-fn chart_lines(buffer: &[u8], length: usize) -> usize {
+// The line at the start of a buffer.
+fn call_in(buffer: &[u8], length: usize) -> Call {
     let kept = least(length, buffer.len());
-    let line = &buffer[0..kept];
-    let f = read_fields(line);
-    if f.count != 2 {
+    read_call(&buffer[0..kept])
+}
+
+// How many lines of a chart text follow, or a mark if the line does not say that.
+fn chart_lines(call: Call) -> usize {
+    let f = call.fields;
+    let name = call.name;
+    let Name::Chart = name else {
+        return OTHER;
+    };
+    if f.count != 1 {
         return OTHER;
     }
-    let end = until(line, b' ');
-    if !is(&line[0..end], b"chart") {
-        return OTHER;
-    }
-    f.values[1]
+    f.values[0]
 }
 
 // The lines read become the chart text, if they fit.
 fn keep(read: Lines, text: &[u8; 65536], chart: &mut [u8; 65536], state: State) -> State {
     if !read.fits {
-        return state.passed_over();
+        print_no_form();
+        return state;
     }
     let mut next = state;
     next.chart = read.length;
@@ -109,6 +123,7 @@ fn keep(read: Lines, text: &[u8; 65536], chart: &mut [u8; 65536], state: State) 
 fn on_line(
     buffer: &[u8],
     length: usize,
+    call: Call,
     state: State,
     chart: &[u8],
     forward: &mut [u32; 16384],
@@ -117,37 +132,108 @@ fn on_line(
 ) -> State {
     let kept = least(length, buffer.len());
     let line = &buffer[0..kept];
-    let f = read_fields(line);
-    let end = until(line, b' ');
-    let name = &line[0..end];
-    if is(name, b"past") {
-        return past(f, state, run);
-    }
     let bytes = least(state.chart, chart.len());
     let text = &chart[0..bytes];
-    let side = f.values[1];
-    if side == FORWARD {
-        return on_words(name, line, f, 0, state, text, forward, run);
+    if call.side == 0 {
+        return on_side(line, call, 0, state, text, forward, run);
     }
-    if side == BACKWARD {
-        return on_words(name, line, f, 1, state, text, backward, run);
+    if call.side == 1 {
+        return on_side(line, call, 1, state, text, backward, run);
     }
-    on_record(name, f, state)
+    on_no_side(call, state, run)
+}
+
+// A side is 0 for the forward words and 1 for the backward ones.
+fn on_side(
+    line: &[u8],
+    call: Call,
+    side: usize,
+    state: State,
+    chart: &[u8],
+    words: &mut [u32; 16384],
+    run: &mut [u32; 4096],
+) -> State
+    requires { ⌜ side < 2 ⌝ }
+{
+    let lent = state.lent[side];
+    let name = call.name;
+    if is_search(name) {
+        return with_search(line, call, state, lent, words, run);
+    }
+    state.with_lent(side, on_words(call, lent, chart, words))
+}
+
+fn is_search(name: Name) -> bool {
+    match name {
+        Name::Open | Name::Step | Name::Lent | Name::Retrace => true,
+        _ => false,
+    }
+}
+
+// A call gets the first of the words, as many as are lent.
+fn with_search(
+    line: &[u8],
+    call: Call,
+    state: State,
+    lent: usize,
+    words: &mut [u32],
+    run: &mut [u32; 4096],
+) -> State {
+    let f = call.fields;
+    let k = f.values[1];
+    if k < RECORDS {
+        let end = least(lent, words.len());
+        let record = on_search(line, call, state.records[k], &mut words[0..end], run);
+        return state.with_record(k, record);
+    }
+    print_no_form();
+    state
+}
+
+// Lines on the run slice and on the records.
+fn on_no_side(call: Call, state: State, run: &[u32]) -> State {
+    let f = call.fields;
+    let name = call.name;
+    if let Name::Past = name {
+        past(f, run);
+        return state;
+    }
+    let k = f.values[0];
+    if RECORDS <= k {
+        print_no_form();
+        return state;
+    }
+    if let Name::Copy = name {
+        return copy(f, state, k);
+    }
+    state.with_record(k, on_record(name, f, state.records[k]))
 }
 
 // Four words of the run slice.
-fn past(f: Fields, state: State, run: &[u32]) -> State {
-    let at = f.values[1];
-    if f.count != 2 {
-        return state.passed_over();
+fn past(f: Fields, run: &[u32]) {
+    let at = f.values[0];
+    if f.count == 1 {
+        if at <= MAX_NUMBER {
+            let end = at + 4;
+            if end <= run.len() {
+                print_words(b"past", &run[at..end]);
+                return;
+            }
+        }
     }
-    if MAX_NUMBER < at {
-        return state.passed_over();
+    print_no_form();
+}
+
+fn copy(f: Fields, state: State, k: usize) -> State
+    requires { ⌜ k < 8 ⌝ }
+{
+    let j = f.values[1];
+    if f.count == 2 {
+        if j < RECORDS {
+            print(b"copied\n");
+            return state.with_record(j, state.records[k]);
+        }
     }
-    let end = at + 4;
-    if run.len() < end {
-        return state.passed_over();
-    }
-    print_words(b"past", &run[at..end]);
+    print_no_form();
     state
 }

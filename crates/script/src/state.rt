@@ -1,7 +1,6 @@
 // What a script's lines leave behind, beside the words.
-use crate::print::print;
 use model::Search;
-ghost use Prim.Native.Nat.{_<_, _≤_};
+ghost use Prim.Native.Nat.{_<_};
 
 pub const RECORDS: usize = 8;
 
@@ -38,19 +37,4 @@ impl State {
         self.records[k] = record;
         self
     }
-
-    // A line that has no form.
-    pub fn passed_over(self) -> State {
-        print(b"?\n");
-        self
-    }
-}
-
-pub fn least(a: usize, b: usize) -> usize
-    ensures { λ r. ⌜ r ≤ b ⌝ }
-{
-    if a < b {
-        return a;
-    }
-    b
 }

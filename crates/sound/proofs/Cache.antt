@@ -16,20 +16,20 @@ use Rattle.model.specs.Sound.{starts, distinctb}
 use Rattle.model.proofs.Bools.{and-true, true-and, all-true, upto-at}
 use Rattle.model.proofs.Lists.{numbers-snoc}
 use Rattle.model.proofs.Tests.{distinct-at, at-distinct}
-use Rattle.layout.specs.Layout.{Sized, treeWords, slotAt}
-use Rattle.layout.specs.Read.{directionOf, graphIn, domainIn, domainOf, treeIn, treesIn, readCache}
-use Rattle.layout.specs.Sound.{headerTests, initialb, edgeTests, indexb, graphTests, zerosb, treeWordsb, slotWords, treesTests, soundWordsb}
-use Rattle.layout.proofs.Places.{part-at}
+use Rattle.layout.specs.Layout.{Sized, slotAt, directionIn, edgesIn, initialIn, slotsIn, startIn, treesIn, verticesIn}
+use Rattle.layout.specs.Read.{directionOf, graphIn, domainIn, domainOf, treeIn, readTrees, readCache}
+use Rattle.layout.specs.Sound.{headerTests, initialb, edgeTests, indexb, graphTests, zerosb, treeWordsb, treesTests, soundWordsb}
 use Rattle.layout.proofs.Sizes.{slots-fit}
 use Rattle.layout.proofs.Edges.{vertex-count-in, edge-count-in}
+use Rattle.layout.specs.Slots.{slotWords, HasSlot}
+use Rattle.layout.proofs.SlotWords.{slot-words-length}
 use Rattle.graph.specs.Write.{WritesIndex}
-use Rattle.graph.proofs.Parts.{mid-at}
 use Rattle.sound.specs.Check.{HasGraph, CanCheck, CanCheckTrees, Marked, TreesIn, treesb}
-use Rattle.sound.proofs.Tests.{upto-passes, upto-less, all-fails, read-last}
+use Rattle.sound.proofs.Tests.{one-more, all-passed, all-fails, read-last}
 use Rattle.sound.proofs.Header.{headed}
 use Rattle.sound.proofs.Marks.{distinct-snoc, marked-none, marked-more}
 use Rattle.sound.proofs.Held.{held-at, initials-as, edges-from, edges-to}
-use Rattle.sound.proofs.Slots.{slot-order, slot-before, slot-length, start-in-at, starts-in-length}
+use Rattle.sound.proofs.Slots.{slot-order, slot-before, start-in-at, starts-in-length}
 use Rattle.sound.proofs.Facts.{tree-words-at}
 
 -- a test that cannot pass
@@ -43,10 +43,10 @@ module _ (ws : List ℕ) (header : allb (headerTests ws) ≡ true) where
   pub has-header : 5 ≤ length ws
   has-header = headed ws header .header
 
-  pub has-initials : {m : ℕ} → m ≡ getD ws 1 0 → 5 + m ≤ length ws
+  pub has-initials : {m : ℕ} → m ≡ verticesIn ws → 5 + m ≤ length ws
   has-initials e = omega (arith, headed ws header .fits)
 
-  module _ {m l : ℕ} (em : m ≡ getD ws 1 0) (el : l ≡ getD ws 2 0) where
+  module _ {m l : ℕ} (em : m ≡ verticesIn ws) (el : l ≡ edgesIn ws) where
     pub has-graph : HasGraph m l ws
     has-graph = rw (em, el) (record { sized = headed ws header .sized; fits = omega (arith, headed ws header .fits) })
 
@@ -55,10 +55,10 @@ module _ (ws : List ℕ) (header : allb (headerTests ws) ≡ true) where
 
     vertices : vertexCount (d .graph) ≡ m
     unfolding readCache
-    vertices = vertex-count-in (getD ws 1 0) (getD ws 2 0) ws (has-initials refl) ∙ sym em
+    vertices = vertex-count-in (verticesIn ws) (edgesIn ws) ws (has-initials refl) ∙ sym em
 
     -- each test, as the graph has it
-    initials : upto (λ v. initialb (getD ws (5 + v) 0)) m ≡ getD (graphTests d ws) 0 true
+    initials : upto (λ v. initialb (initialIn ws v)) m ≡ getD (graphTests d ws) 0 true
     unfolding readCache
     initials =
         initials-as m l ws (has-initials em)
@@ -66,13 +66,13 @@ module _ (ws : List ℕ) (header : allb (headerTests ws) ≡ true) where
 
     edges : upto (λ e. allb (edgeTests (graphIn m l ws) e)) l ≡ getD (graphTests d ws) 1 true
     unfolding readCache
-    edges = (λ i. upto (λ e. allb (edgeTests (graphIn (em i) (el i) ws) e)) (el i)) ∙ ap (upto _) (sym (edge-count-in (getD ws 1 0) (getD ws 2 0) ws))
+    edges = (λ i. upto (λ e. allb (edgeTests (graphIn (em i) (el i) ws) e)) (el i)) ∙ ap (upto _) (sym (edge-count-in (verticesIn ws) (edgesIn ws) ws))
 
-    index : indexb (domainIn (directionOf (getD ws 0 0)) m l ws) ws ≡ getD (graphTests d ws) 2 true
+    index : indexb (domainIn (directionOf (directionIn ws)) m l ws) ws ≡ getD (graphTests d ws) 2 true
     unfolding readCache
-    index = λ i. indexb (domainIn (directionOf (getD ws 0 0)) (em i) (el i) ws) ws
+    index = λ i. indexb (domainIn (directionOf (directionIn ws)) (em i) (el i) ws) ws
 
-    pub initials-fail : {a : Bool} → a ≡ upto (λ v. initialb (getD ws (5 + v) 0)) m → not a ≡ true → false ≡ allb (graphTests d ws)
+    pub initials-fail : {a : Bool} → a ≡ upto (λ v. initialb (initialIn ws v)) m → not a ≡ true → false ≡ allb (graphTests d ws)
     initials-fail {a} ea n = sym (all-fails (graphTests d ws) 0 (sym (ea ∙ initials) ∙ not-true a n))
 
     pub edges-fail : {b : Bool} → b ≡ upto (λ e. allb (edgeTests (graphIn m l ws) e)) l → not b ≡ true → false ≡ allb (graphTests d ws)
@@ -88,9 +88,9 @@ module _ (ws : List ℕ) (header : allb (headerTests ws) ≡ true) where
           to = edges-to m l ws (has-initials em) passed;
         }
 
-    pub graph-last : {a b r : Bool} → a ≡ upto (λ v. initialb (getD ws (5 + v) 0)) m → not a ≡ false
+    pub graph-last : {a b r : Bool} → a ≡ upto (λ v. initialb (initialIn ws v)) m → not a ≡ false
         → b ≡ upto (λ e. allb (edgeTests (graphIn m l ws) e)) l → not b ≡ false
-        → r ≡ indexb (domainIn (directionOf (getD ws 0 0)) m l ws) ws → r ≡ allb (graphTests d ws)
+        → r ≡ indexb (domainIn (directionOf (directionIn ws)) m l ws) ws → r ≡ allb (graphTests d ws)
     graph-last {a} {b} ea na eb nb er =
         er ∙ index
         ∙ read-last {cs = graphTests d ws} refl 2 refl (sym (ea ∙ initials) ∙ not-false a na) (sym (eb ∙ edges) ∙ not-false b nb)
@@ -101,109 +101,110 @@ starts-snoc : (f : ℕ → Tree) (xs : List ℕ) (x : ℕ) → starts (map f (xs
 starts-snoc f [] x = refl
 starts-snoc f (y ∷ ys) x = ap (λ (l : List ℕ). f y .start ∷ l) (starts-snoc f ys x)
 
-module _ (m l : ℕ) (ws : List ℕ) where
+module _ (ws : List ℕ) where
+  abbrev own : ℕ → List ℕ
+  own i = slotWords (verticesIn ws) (edgesIn ws) i ws
+
   abbrev treeb : ℕ → Bool
-  treeb i = treeWordsb (domainOf m l ws) m l (slotWords m l i ws)
+  treeb i = treeWordsb (domainOf (verticesIn ws) (edgesIn ws) ws) (verticesIn ws) (edgesIn ws) (own i)
 
   -- the vertices at which the first n trees start
   abbrev startsTo : ℕ → List ℕ
-  startsTo n = starts (treesIn m l n ws)
+  startsTo n = starts (readTrees (verticesIn ws) (edgesIn ws) n ws)
 
-  starts-more : (i : ℕ) → startsTo (i + 1) ≡ startsTo i ++ (getD ws (slotAt m l i + 0) 0 ∷ [])
+  starts-more : (i : ℕ) → startsTo (i + 1) ≡ startsTo i ++ (startIn (own i) ∷ [])
   unfolding treeIn
   starts-more i =
-      ap (λ (xs : List ℕ). starts (map (λ j. treeIn m l (slotWords m l j ws)) xs)) (ap numbers (add-one i) ∙ numbers-snoc i)
-      ∙ starts-snoc (λ j. treeIn m l (slotWords m l j ws)) (numbers i) i
-      ∙ ap (λ (x : ℕ). startsTo i ++ (x ∷ [])) (part-at (slotAt m l i) (treeWords m l) ws 0 (omega arith))
+      ap (λ (xs : List ℕ). starts (map (λ j. treeIn (verticesIn ws) (edgesIn ws) (own j)) xs)) (ap numbers (add-one i) ∙ numbers-snoc i)
+      ∙ starts-snoc (λ j. treeIn (verticesIn ws) (edgesIn ws) (own j)) (numbers i) i
 
   -- fewer trees pass too
-  trees-less : (i n : ℕ) → i ≤ n → treesb m l n ws ≡ true → treesb m l i ws ≡ true
+  trees-less : (i n : ℕ) → i ≤ n → treesb n ws ≡ true → treesb i ws ≡ true
   unfolding treesb
   trees-less i n h e =
       let r = and-true (distinctb (startsTo n)) (upto treeb n) e in
-      let fewer = starts-in-length m l i ws in
-      let all = starts-in-length m l n ws in
+      let fewer = starts-in-length (verticesIn ws) (edgesIn ws) i ws in
+      let all = starts-in-length (verticesIn ws) (edgesIn ws) n ws in
       let start : (j : ℕ) → j < i → getD (startsTo i) j 0 ≡ getD (startsTo n) j 0 =
-      λ j k. start-in-at m l ws k ∙ sym (start-in-at m l ws {n = n} (omega arith)) in
+      λ j k. start-in-at (verticesIn ws) (edgesIn ws) ws k ∙ sym (start-in-at (verticesIn ws) (edgesIn ws) ws {n = n} (omega arith)) in
       true-and (distinctb (startsTo i)) (upto treeb i)
       (at-distinct (startsTo i) (λ a b ha hb s. distinct-at (startsTo n) (r .0) a b (omega arith) (omega arith) (sym (start a (omega arith)) ∙ s ∙ start b (omega arith))))
-      (upto-less treeb i n h (r .1))
+      (sym (all-passed treeb i n (r .1) h))
 
-  pub trees-none : treesb m l 0 ws ≡ true
+  pub trees-none : treesb 0 ws ≡ true
   unfolding treesb
   trees-none = refl
 
 pub starts-none : {marks : List Bool} → marks ≡ replicate 1024 false → Marked marks 1024 []
 starts-none e = rw e (marked-none 1024)
 
--- slot i of n: w words from `at` on
-module _ {m l i n : ℕ} {ws : List ℕ} (ok : TreesIn m l n ws) (h : i < n) {at w : ℕ} (ea : at ≡ slotAt m l i) (ew : w ≡ treeWords m l) where
-  pub slot-fits : at + w ≤ length ws
-  slot-fits = omega (arith, ok .fits, slot-before m l h)
+-- slot i of n
+module _ {i n : ℕ} {ws : List ℕ} (ok : TreesIn n ws) (h : i < n) where
+  pub has-slot : HasSlot ws i
+  has-slot = record {
+    numbered = record { header = ok .header; sized = ok .held .sized; few = omega (arith, ok .few) };
+    fits = omega (arith, ok .fits, slot-before (verticesIn ws) (edgesIn ws) h);
+  }
 
-  -- as a machine's number
-  pub slot-small : at + w ≤ 800000
-  slot-small = omega (arith, slot-before m l h, slots-fit (ok .held .sized) (ok .few), ok .held .sized .vertices, ok .held .sized .edges)
+  -- the counts are read as m and l, the slot's words as t
+  module _ {m l : ℕ} {t : List ℕ} (em : m ≡ verticesIn ws) (el : l ≡ edgesIn ws) (et : t ≡ own ws i) where
+    pub can-check : CanCheck m l ws t
+    can-check = rw (em, el, et) (record { held = ok .held; len = slot-words-length has-slot })
 
-  slot-is : midOf at (at + w - at) ws ≡ slotWords m l i ws
-  slot-is = mid-at ws (treeWords m l) ea (omega arith)
+    pub has-start : 0 < length t
+    has-start = omega (arith, can-check .len)
 
-  len : length (slotWords m l i ws) ≡ treeWords m l
-  len = slot-length m l ws h (ok .fits)
+    module _ {r : Bool} (er : r ≡ treeWordsb (domainOf m l ws) m l t) where
+      answer : r ≡ treeb ws i
+      answer = er ∙ (λ j. treeWordsb (domainOf (em j) (el j) ws) (em j) (el j) (et j))
 
-  pub can-check : CanCheck m l ws (midOf at (at + w - at) ws)
-  can-check = rw slot-is (record { held = ok .held; len = len })
+      pub tree-fails : not r ≡ true → false ≡ treesb n ws
+      unfolding treesb
+      tree-fails e = fails _ (λ p.
+          let passed = upto-at (treeb ws) n (and-true (distinctb (startsTo ws n)) (upto (treeb ws) n) p .1) i h in
+          true≢false (sym passed ∙ sym answer ∙ not-true r e))
 
-  module _ {r : Bool} (er : r ≡ treeWordsb (domainOf m l ws) m l (midOf at (at + w - at) ws)) where
-    answer : r ≡ treeb m l ws i
-    answer = er ∙ ap (treeWordsb (domainOf m l ws) m l) slot-is
+      -- the tree passes, and starts at s
+      module _ (e : not r ≡ false) {s : ℕ} (es : s ≡ startIn t) where
+        start-is : startIn (own ws i) ≡ s
+        start-is = sym (es ∙ ap startIn et)
 
-    pub tree-fails : not r ≡ true → false ≡ treesb m l n ws
-    unfolding treesb
-    tree-fails e = fails _ (λ p.
-        let passed = upto-at (treeb m l ws) n (and-true (distinctb (startsTo m l ws n)) (upto (treeb m l ws) n) p .1) i h in
-        true≢false (sym passed ∙ sym answer ∙ not-true r e))
+        start-small : s < 1024
+        unfolding treeIn
+        start-small =
+            let sound = tree-words-at (domainOf (verticesIn ws) (edgesIn ws) ws) (verticesIn ws) (edgesIn ws) (own ws i) (ok .held .sized) (slot-words-length has-slot) (sym answer ∙ not-false r e) .1 in
+            omega (arith, sound .inside, vertex-count-in (verticesIn ws) (edgesIn ws) ws (omega (arith, ok .held .fits)), ok .held .sized .vertices, start-is)
 
-    -- the tree passes, and starts at s
-    module _ (e : not r ≡ false) {s : ℕ} (es : s ≡ getD ws (at + 0) 0) where
-      start-is : getD ws (slotAt m l i + 0) 0 ≡ s
-      start-is = sym (es ∙ ap (λ (a : ℕ). getD ws (a + 0) 0) ea)
+        module _ {marks : List Bool} (marked : Marked marks 1024 (startsTo ws i)) where
+          pub has-mark : s < length marks
+          has-mark = omega (arith, start-small, marked .len)
 
-      start-small : s < 1024
-      unfolding treeIn
-      start-small =
-          let sound = tree-words-at (domainOf m l ws) m l (slotWords m l i ws) (ok .held .sized) len (sym answer ∙ not-false r e) .1 in
-          let vertices = vertex-count-in m l ws (omega (arith, ok .held .fits)) in
-          let start = part-at (slotAt m l i) (treeWords m l) ws 0 (omega arith) in
-          omega (arith, sound .inside, vertices, ok .held .sized .vertices, start, start-is)
+          distinct : distinctb (startsTo ws (i + 1)) ≡ (distinctb (startsTo ws i) && not (getD marks s false))
+          distinct =
+              ap distinctb (starts-more ws i)
+              ∙ distinct-snoc _ (startsTo ws i)
+              ∙ ap (λ (b : Bool). distinctb (startsTo ws i) && not b) (ap (λ (x : ℕ). mem x (startsTo ws i)) start-is ∙ sym (marked .mark s start-small))
 
-      module _ {marks : List Bool} (marked : Marked marks 1024 (startsTo m l ws i)) where
-        pub has-mark : s < length marks
-        has-mark = omega (arith, start-small, marked .len)
+          pub start-twice : getD marks s false ≡ true → false ≡ treesb n ws
+          unfolding treesb
+          start-twice y = fails _ (λ p.
+              let q = and-true _ (upto (treeb ws) (i + 1)) (trees-less ws (i + 1) n (omega arith) p) .0 in
+              let new = and-true (distinctb (startsTo ws i)) _ (sym distinct ∙ q) .1 in
+              true≢false (sym y ∙ not-true _ new))
 
-        distinct : distinctb (startsTo m l ws (i + 1)) ≡ (distinctb (startsTo m l ws i) && not (getD marks s false))
-        distinct =
-            ap distinctb (starts-more m l ws i)
-            ∙ distinct-snoc _ (startsTo m l ws i)
-            ∙ ap (λ (b : Bool). distinctb (startsTo m l ws i) && not b) (ap (λ (x : ℕ). mem x (startsTo m l ws i)) start-is ∙ sym (marked .mark s start-small))
+          pub trees-more : treesb i ws ≡ true → getD marks s false ≡ false → treesb (i + 1) ws ≡ true
+          unfolding treesb
+          trees-more p new =
+              let q = and-true (distinctb (startsTo ws i)) (upto (treeb ws) i) p in
+              true-and (distinctb (startsTo ws (i + 1))) (upto (treeb ws) (i + 1))
+              (distinct ∙ true-and (distinctb (startsTo ws i)) _ (q .0) (ap not new))
+              (one-more (treeb ws) i r (q .1) answer e)
 
-        pub start-twice : getD marks s false ≡ true → false ≡ treesb m l n ws
-        unfolding treesb
-        start-twice y = fails _ (λ p.
-            let q = and-true _ (upto (treeb m l ws) (i + 1)) (trees-less m l ws (i + 1) n (omega arith) p) .0 in
-            let new = and-true (distinctb (startsTo m l ws i)) _ (sym distinct ∙ q) .1 in
-            true≢false (sym y ∙ not-true _ new))
+          pub starts-marked : Marked (set marks s true) 1024 (startsTo ws (i + 1))
+          starts-marked = rw (starts-more ws i, start-is) (marked-more marked start-small)
 
-        pub trees-more : treesb m l i ws ≡ true → getD marks s false ≡ false → treesb m l (i + 1) ws ≡ true
-        unfolding treesb
-        trees-more p new =
-            let q = and-true (distinctb (startsTo m l ws i)) (upto (treeb m l ws) i) p in
-            true-and (distinctb (startsTo m l ws (i + 1))) (upto (treeb m l ws) (i + 1))
-            (distinct ∙ true-and (distinctb (startsTo m l ws i)) _ (q .0) (ap not new))
-            (upto-passes (treeb m l ws) i (q .1) (sym answer ∙ not-false r e))
-
-        pub starts-marked : Marked (set marks s true) 1024 (startsTo m l ws (i + 1))
-        starts-marked = rw (starts-more m l ws i, start-is) (marked-more marked start-small)
+pub trees-all : {i n : ℕ} (ws : List ℕ) → i ≤ n → n ≤ i → treesb i ws ≡ true → true ≡ treesb n ws
+trees-all {i} {n} ws h k e = let end : i ≡ n = omega arith in sym (rw end at e)
 
 -- ---- all slots
 
@@ -211,43 +212,46 @@ module _ {ws : List ℕ} (can : CanCheckTrees ws) where
   pub trees-header : 5 ≤ length ws
   trees-header = has-header ws (can .header)
 
-  pub slots-few : {s : ℕ} → s ≡ getD ws 3 0 → s ≤ 64
+  pub slots-few : {s : ℕ} → s ≡ slotsIn ws → s ≤ 64
   slots-few es = rw es (headed ws (can .header) .slots)
 
-  pub trees-few : {u : ℕ} → u ≡ getD ws 4 0 → u ≤ 64
+  pub trees-few : {u : ℕ} → u ≡ treesIn ws → u ≤ 64
   trees-few eu = let h = headed ws (can .header) in rw eu (omega (arith, h .used, h .slots))
 
   -- u of s slots are in use
-  module _ {m l : ℕ} (em : m ≡ getD ws 1 0) (el : l ≡ getD ws 2 0) where
+  module _ {u : ℕ} (eu : u ≡ treesIn ws) where
+    pub trees-in : TreesIn u ws
+    trees-in =
+        let h = headed ws (can .header) in
+        rw eu (record {
+          header = h .header;
+          held = held-at ws (can .header) (can .graph);
+          few = trees-few refl;
+          fits = omega (arith, h .fits, slot-order (verticesIn ws) (edgesIn ws) (h .used));
+        })
+
+    module _ {r : Bool} (er : r ≡ treesb u ws) where
+      answers : r ≡ treesb (treesIn ws) ws
+      answers = er ∙ ap (λ (n : ℕ). treesb n ws) eu
+
+      pub trees-fail : not r ≡ true → false ≡ allb (treesTests ws)
+      unfolding treesb readCache
+      trees-fail e = fails _ (λ p.
+          let t = all-true (treesTests ws) p in
+          true≢false (sym (true-and _ _ (t .0) (t .1 .0)) ∙ sym answers ∙ not-true r e))
+
+  module _ {m l : ℕ} (em : m ≡ verticesIn ws) (el : l ≡ edgesIn ws) where
     pub trees-sized : Sized m l
     trees-sized = rw (em, el) (headed ws (can .header) .sized)
 
-    module _ {u : ℕ} (eu : u ≡ getD ws 4 0) where
-      pub trees-in : TreesIn m l u ws
-      trees-in =
-          let h = headed ws (can .header) in
-          rw (em, el, eu) (record {
-            held = held-at ws (can .header) (can .graph);
-            few = trees-few refl;
-            fits = omega (arith, h .fits, slot-order (getD ws 1 0) (getD ws 2 0) (h .used));
-          })
-
-      module _ {r : Bool} (er : r ≡ treesb m l u ws) where
-        answers : r ≡ treesb (getD ws 1 0) (getD ws 2 0) (getD ws 4 0) ws
-        answers = er ∙ (λ i. treesb (em i) (el i) (eu i) ws)
-
-        pub trees-fail : not r ≡ true → false ≡ allb (treesTests ws)
-        unfolding treesb readCache
-        trees-fail e = fails _ (λ p.
-            let t = all-true (treesTests ws) p in
-            true≢false (sym (true-and _ _ (t .0) (t .1 .0)) ∙ sym answers ∙ not-true r e))
-
-        -- the slots not in use, from `at` up to `end`
-        module _ (e : not r ≡ false) {s at end : ℕ} (es : s ≡ getD ws 3 0) (ea : at ≡ slotAt m l u) (ee : end ≡ slotAt m l s) where
+    module _ {u : ℕ} (eu : u ≡ treesIn ws) where
+      -- the slots not in use, from `at` up to `end`
+      module _ {r : Bool} (er : r ≡ treesb u ws) where
+        module _ (e : not r ≡ false) {s at end : ℕ} (es : s ≡ slotsIn ws) (ea : at ≡ slotAt m l u) (ee : end ≡ slotAt m l s) where
           pub trees-last : {z : Bool} → z ≡ zerosb (midOf at (end - at) ws) → z ≡ allb (treesTests ws)
           unfolding treesb readCache
           trees-last ez =
-              let t = and-true _ _ (sym answers ∙ not-false r e) in
+              let t = and-true _ _ (sym (answers eu er) ∙ not-false r e) in
               ez
               ∙ (λ i. zerosb (midOf (ea i) (ee i - ea i) ws))
               ∙ (λ i. zerosb (midOf (slotAt (em i) (el i) (eu i)) (slotAt (em i) (el i) (es i) - slotAt (em i) (el i) (eu i)) ws))
@@ -256,10 +260,10 @@ module _ {ws : List ℕ} (can : CanCheckTrees ws) where
       pub spare-small : {at : ℕ} → at ≡ slotAt m l u → at ≤ 800000
       spare-small ea = omega (arith, slots-fit trees-sized (trees-few eu), trees-sized .vertices, trees-sized .edges)
 
-      pub spare-from : {s at end : ℕ} → s ≡ getD ws 3 0 → at ≡ slotAt m l u → end ≡ slotAt m l s → at ≤ end
+      pub spare-from : {s at end : ℕ} → s ≡ slotsIn ws → at ≡ slotAt m l u → end ≡ slotAt m l s → at ≤ end
       spare-from {s} es ea ee = let used : u ≤ s = omega (arith, headed ws (can .header) .used) in omega (arith, slot-order m l used)
 
-    pub spare-fits : {s end : ℕ} → s ≡ getD ws 3 0 → end ≡ slotAt m l s → end ≤ length ws
+    pub spare-fits : {s end : ℕ} → s ≡ slotsIn ws → end ≡ slotAt m l s → end ≤ length ws
     spare-fits es ee = rw (ee, em, el, es) (headed ws (can .header) .fits)
 
 -- ---- the whole

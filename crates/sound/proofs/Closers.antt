@@ -12,7 +12,7 @@ use borrow.Author.Tests.{lt-ltb, le-ltb, eq-eqb, ne-eqb}
 use Rattle.model.specs.Lists.{allIn}
 use Rattle.model.specs.Tree.{Node, node, closedAt, evaluation}
 use Rattle.model.specs.Sound.{closerb, begunb}
-use Rattle.layout.specs.Layout.{nodeAt, queueAt, closedWordsAt}
+use Rattle.layout.specs.Layout.{nodeAt, queueAt, closedWordsAt, queuedIn, startIn, usedIn, vertexIn}
 use Rattle.layout.specs.Read.{treeIn}
 use Rattle.layout.proofs.Trees.{tree-nodes, tree-node}
 use Rattle.queue.specs.Queue.{evaluationIn}
@@ -27,7 +27,7 @@ use Rattle.sound.proofs.Waiting.{mem-waiting, all-below-used, queued-no
 pub closer-open : (l : ℕ) (t : List ℕ) (v c : ℕ) → c ≡ closedWordsAt l → HasVertex l t v → getD t (c + v) 0 ≡ 0 → true ≡ closerb (treeOf l t) v
 closer-open l t v c at h e = rw (closed-word l t v c h at, e)
 
-module _ (l : ℕ) (t : List ℕ) (v c : ℕ) (at : c ≡ closedWordsAt l) (h : HasVertex l t v) (some : getD t (c + v) 0 ≡ 0 → ⊥) where
+module _ (l : ℕ) (ws t : List ℕ) (v c : ℕ) (at : c ≡ closedWordsAt l) (h : HasVertex l t v) (some : getD t (c + v) 0 ≡ 0 → ⊥) where
   -- the number named
   abbrev i : ℕ
   i = getD t (c + v) 0 - 1
@@ -40,29 +40,29 @@ module _ (l : ℕ) (t : List ℕ) (v c : ℕ) (at : c ≡ closedWordsAt l) (h : 
       rw e
 
   -- it is no node
-  pub closer-past : getD t 1 0 ≤ i → false ≡ closerb (treeOf l t) v
-  closer-past g = rw (names, tree-nodes _ l t, le-ltb i (getD t 1 0) g)
+  pub closer-past : usedIn t ≤ i → false ≡ closerb (treeOf l t) v
+  closer-past g = rw (names, tree-nodes _ l t, le-ltb i (usedIn t) g)
 
   -- it is a node k, whose vertex x is read
-  module _ (k x y : ℕ) (n : i < getD t 1 0) (ek : k ≡ i) (ey : y ≡ getD t (nodeAt k + 0) 0) (ex : x ≡ y) where
+  module _ (k x y : ℕ) (n : i < usedIn t) (ek : k ≡ i) (ey : y ≡ vertexIn ws t k) (ex : x ≡ y) where
     vertex-is : (node (treeOf l t .nodes) i) .vertex ≡ x
     vertex-is =
         ap (λ (z : Node). z .vertex) (tree-node _ l t i n)
-        ∙ sym (ex ∙ ey ∙ ap (λ (z : ℕ). getD t z 0) (omega arith))
+        ∙ sym (ex ∙ ey ∙ ap (vertexIn ws t) ek)
 
     -- of another vertex
     pub closer-elsewhere : (x ≡ v → ⊥) → false ≡ closerb (treeOf l t) v
-    closer-elsewhere ne = rw (names, tree-nodes _ l t, lt-ltb i (getD t 1 0) n, vertex-is, ne-eqb x v ne)
+    closer-elsewhere ne = rw (names, tree-nodes _ l t, lt-ltb i (usedIn t) n, vertex-is, ne-eqb x v ne)
 
     named : x ≡ v
         → closerb (treeOf l t) v ≡ allIn (λ j. leb (evaluation (treeOf l t .nodes) i) (evaluation (treeOf l t .nodes) j)) (treeOf l t .waiting)
-    named ev = names ∙ rw (tree-nodes _ l t, lt-ltb i (getD t 1 0) n, vertex-is, eq-eqb x v ev)
+    named ev = names ∙ rw (tree-nodes _ l t, lt-ltb i (usedIn t) n, vertex-is, eq-eqb x v ev)
 
     -- of v: no node waits, or the first is compared
-    pub closer-alone : Waits l t → x ≡ v → getD t 2 0 ≡ 0 → true ≡ closerb (treeOf l t) v
+    pub closer-alone : Waits l t → x ≡ v → queuedIn t ≡ 0 → true ≡ closerb (treeOf l t) v
     closer-alone w ev z = sym (named ev ∙ none-waits _ l t w _ z)
 
-    pub closer-first : Waits l t → x ≡ v → (getD t 2 0 ≡ 0 → ⊥) → (q a b : ℕ) → q ≡ queueAt l → a ≡ evaluationIn t i → b ≡ evaluationIn t (getD t q 0)
+    pub closer-first : Waits l t → x ≡ v → (queuedIn t ≡ 0 → ⊥) → (q a b : ℕ) → q ≡ queueAt l → a ≡ evaluationIn t i → b ≡ evaluationIn t (getD t q 0)
         → leb a b ≡ closerb (treeOf l t) v
     closer-first w ev more q a b eq ea eb =
         let cost : evaluation (treeOf l t .nodes) i ≡ a = node-cost _ l t i n ∙ sym ea in
@@ -70,17 +70,17 @@ module _ (l : ℕ) (t : List ℕ) (v c : ℕ) (at : c ≡ closedWordsAt l) (h : 
         sym (named ev ∙ waiting-first _ l t w _ (omega arith) ∙ ap₂ leb cost first)
 
 -- the first queue word, at place q, is a node
-pub first-fits : (l : ℕ) (t : List ℕ) (q : ℕ) → Waits l t → (getD t 2 0 ≡ 0 → ⊥) → q ≡ queueAt l → nodeAt (getD t q 0) + 4 ≤ length t
+pub first-fits : (l : ℕ) (t : List ℕ) (q : ℕ) → Waits l t → (queuedIn t ≡ 0 → ⊥) → q ≡ queueAt l → nodeAt (getD t q 0) + 4 ≤ length t
 first-fits l t q w more eq =
-    let node : getD t q 0 < getD t 1 0 = rw (eq, ← add-zero (queueAt l)) (queued-node l t w 0 (omega arith)) in
+    let node : getD t q 0 < usedIn t = rw (eq, ← add-zero (queueAt l)) (queued-node l t w 0 (omega arith)) in
     omega (arith, w .areas .used, w .areas .fits)
 
 -- ---- the root
 
-module _ (l : ℕ) (t : List ℕ) (marks : List Bool) (c v : ℕ) (r : RootMarked l t marks) (at : c ≡ closedWordsAt l) (ev : v ≡ getD t 0 0) where
+module _ (l : ℕ) (t : List ℕ) (marks : List Bool) (c v : ℕ) (r : RootMarked l t marks) (at : c ≡ closedWordsAt l) (ev : v ≡ startIn t) where
   start-is : closedAt (treeOf l t .closed) (treeOf l t .start) ≡ getD t (c + v) 0
   unfolding treeIn
-  start-is = closed-word l t (getD t 0 0) c (r .start) at ∙ rw (← ev)
+  start-is = closed-word l t (startIn t) c (r .start) at ∙ rw (← ev)
 
   -- its vertex is closed
   pub begun-closed : (getD t (c + v) 0 ≡ 0 → ⊥) → true ≡ begunb (treeOf l t)

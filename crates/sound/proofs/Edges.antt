@@ -3,29 +3,29 @@
 use mathlib.Core.Path.{_≡_, refl, sym, ap, _∙_}
 use mathlib.Core.Logic.{_⊎_, inl, inr, _≢_}
 use mathlib.Core.Bool.{Bool, true, not, _&&_}
-use mathlib.Core.List.{List}
+use mathlib.Core.List.{List, []}
 use Prim.Native.Nat.{ℕ, zero, suc, _+_, _-_, _<_, _≤_}
 use native.Mathlib.Omega.{arith}
-use native.Mathlib.Nat.{add-zero}
 use native.Mathlib.Numerals.{add-one}
 use lib.Dec.{eqb, leb, ltb}
 use lib.ListN.{length, getD, length-append}
 use borrow.Author.Tests.{ltb-true, le-leb, lt-leb, eq-eqb, ne-eqb}
-use Rattle.model.specs.Lists.{numbers, those, allIn, upto}
+use Rattle.model.specs.Lists.{numbers, keep, those, allIn, upto}
 use Rattle.model.specs.Graph.{from, to, cost, vertexCount, edgeCount, edgesInUse}
-use Rattle.model.specs.Tree.{Tree, node, closedAt, evaluation}
+use Rattle.model.specs.Tree.{Tree, node, closedAt, evaluation, weight}
 use Rattle.model.specs.Sound.{closedEdges, closedb, reachedb, closerb, onwardb}
+use Rattle.model.proofs.Worth.{evaluation-small, weight-small}
 use Rattle.model.proofs.Bools.{and-true, all-true, upto-at, at-upto, all-in-at, at-all-in}
-use Rattle.model.proofs.Lists.{up-length, numbers-mem, numbers-has, numbers-snoc, those-length, those-snoc}
-use Rattle.layout.specs.Layout.{nodeAt, edgeAt, closedWordsAt}
+use Rattle.model.proofs.Lists.{numbers-mem, numbers-has, numbers-snoc, those-snoc}
+use Rattle.layout.specs.Layout.{nodeAt, closedWordsAt, costIn, edgeCostIn, fromIn, queuedIn, toIn, usedIn}
 use Rattle.layout.specs.Read.{treeIn, domainOf}
 use Rattle.layout.specs.Held.{Held}
 use Rattle.layout.proofs.Edges.{from-word, to-word, cost-word, vertex-count-in, edge-count-in}
 use Rattle.layout.proofs.Trees.{tree-nodes, tree-closed}
 use Rattle.layout.specs.Sound.{queueTests}
-use Rattle.queue.specs.Queue.{evaluationIn}
+use Rattle.queue.specs.Queue.{figures, evaluationIn, WeightIs}
 use Rattle.tree.proofs.Closed.{node-cost}
-use Rattle.sound.specs.Check.{LeadsOn}
+use Rattle.sound.specs.Check.{CanCheck, noCost, LeadsOn}
 use Rattle.sound.proofs.Tests.{same-tests}
 use Rattle.sound.proofs.LeastCosts.{waits-within}
 
@@ -38,20 +38,29 @@ module _ {m l : ℕ} {ws : List ℕ} (h : Held m l ws) {e : ℕ} (k : e < l) whe
   all : vertexCount (domainOf m l ws .graph) ≡ m
   all = vertex-count-in m l ws (omega (arith, h .fits))
 
-  pub edge-from : {x : ℕ} → x ≡ getD ws (edgeAt m e + 0) 0 → (x ≡ from (domainOf m l ws .graph) e) × (x < m)
+  pub edge-from : {x : ℕ} → x ≡ fromIn m ws e → (x ≡ from (domainOf m l ws .graph) e) × (x < m)
   edge-from {x} q =
-      let same : x ≡ from (domainOf m l ws .graph) e = rw add-zero at q ∙ sym (from-word m l ws e k) in
+      let same : x ≡ from (domainOf m l ws .graph) e = q ∙ sym (from-word m l ws e k) in
       (same, omega (arith, all, h .accepted .leaves e usable))
 
-  edge-to : {x : ℕ} → x ≡ getD ws (edgeAt m e + 1) 0 → (x ≡ to (domainOf m l ws .graph) e) × (x < m)
+  edge-to : {x : ℕ} → x ≡ toIn m ws e → (x ≡ to (domainOf m l ws .graph) e) × (x < m)
   edge-to {x} q =
       let same : x ≡ to (domainOf m l ws .graph) e = q ∙ sym (to-word m l ws e k) in
       (same, omega (arith, all, h .accepted .enters e usable))
 
-  edge-cost : {x : ℕ} → x ≡ getD ws (edgeAt m e + 2) 0 → (x ≡ cost (domainOf m l ws .graph) e) × (x ≤ 999999)
+  edge-cost : {x : ℕ} → x ≡ edgeCostIn m ws e → (x ≡ cost (domainOf m l ws .graph) e) × (x ≤ 999999)
   edge-cost {x} q =
       let same : x ≡ cost (domainOf m l ws .graph) e = q ∙ sym (cost-word m l ws e k) in
       (same, omega (arith, h .accepted .costs e usable))
+
+-- the closed word of the vertex that an edge leaves is there; f is read as the vertex, a as where closed words begin
+module _ {m l : ℕ} {ws t : List ℕ} (can : CanCheck m l ws t) {e : ℕ} (k : e < l) {a f₀ f : ℕ} (p : a ≡ closedWordsAt l) (q₀ : f₀ ≡ fromIn m ws e) (q : f ≡ f₀) where
+  pub closed-there : a + f < length t
+  closed-there = omega (arith, can .len, edge-from (can .held) k (q ∙ q₀))
+
+  -- as a machine's number
+  pub closed-small : a + f ≤ 20000
+  closed-small = omega (arith, edge-from (can .held) k (q ∙ q₀), can .held .sized .vertices, can .held .sized .edges)
 
 -- the closed word of vertex v, as the code reads it
 pub closed-word : (m l : ℕ) {a x v : ℕ} (t : List ℕ) → a ≡ closedWordsAt l → x ≡ v → x < m → getD t (a + x) 0 ≡ closedAt (treeIn m l t .closed) v
@@ -64,40 +73,34 @@ leavesClosed m l ws t e = not (eqb (closedAt (treeIn m l t .closed) (from (domai
 
 -- c of the first n edges leave closed vertices
 pub record CountTo (m l : ℕ) (ws t : List ℕ) (n c : ℕ) : Type 0 where
-  place : n ≤ l
+  pub place : n ≤ l
+  pub few : c ≤ n
   count : c ≡ length (those (leavesClosed m l ws t) (numbers n))
 
 pub count-none : (m l : ℕ) (ws t : List ℕ) → CountTo m l ws t 0 0
 unfolding those
-count-none m l ws t = record { place = omega arith; count = refl }
+count-none m l ws t = record { place = omega arith; few = omega arith; count = refl }
 
 module _ {m l : ℕ} {ws t : List ℕ} {n c : ℕ} (w : CountTo m l ws t n c) where
-  pub count-few : c ≤ l
-  count-few = omega (arith, w .place, w .count, those-length (leavesClosed m l ws t) (numbers n), up-length n 0)
-
   pub count-all : l ≤ n → c ≡ length (closedEdges (domainOf m l ws .graph) (treeIn m l t .closed))
   unfolding closedEdges
   count-all e =
       let all : n ≡ edgeCount (domainOf m l ws .graph) = omega (arith, w .place, e, edge-count-in m l ws) in
       rw all at (w .count)
 
-  pub count-next : {a f d : ℕ} → Held m l ws → n < l → a ≡ closedWordsAt l → f ≡ getD ws (edgeAt m n + 0) 0
-      → ((getD t (a + f) 0 ≢ 0) × (d ≡ c + 1)) ⊎ ((getD t (a + f) 0 ≡ 0) × (d ≡ c)) → CountTo m l ws t (n + 1) d
-  count-next {a} {f} {d} h k p q e = record { place = omega arith; count = next }
-    where
-      ends : (f ≡ from (domainOf m l ws .graph) n) × (f < m)
-      ends = edge-from h k q
+  -- edge n leaves a closed vertex or an open one; a: where closed words begin, f: the vertex
+  module _ (can : CanCheck m l ws t) (k : n < l) {a f₀ f : ℕ} (p : a ≡ closedWordsAt l) (q₀ : f₀ ≡ fromIn m ws n) (q : f ≡ f₀) where
+    next : {d x : ℕ} → d ≡ c + x → x ≡ length (keep (not (eqb (getD t (a + f) 0) 0)) n []) → length (those (leavesClosed m l ws t) (numbers (n + 1))) ≡ d
+    next {d} {x} e g =
+        let ends = edge-from (can .held) k (q ∙ q₀) in
+        let word = closed-word m l t p (ends .0) (ends .1) in
+        rw (add-one, numbers-snoc n, those-snoc (leavesClosed m l ws t) (numbers n) n, length-append, ← w .count, ← word) (sym (e ∙ ap (λ (j : ℕ). c + j) g))
 
-      word : getD t (a + f) 0 ≡ closedAt (treeIn m l t .closed) (from (domainOf m l ws .graph) n)
-      word = closed-word m l t p (ends .0) (ends .1)
+    pub count-closed : getD t (a + f) 0 ≢ 0 → {d : ℕ} → d ≡ c + 1 → CountTo m l ws t (n + 1) d
+    count-closed z e = record { place = omega arith; few = omega (arith, w .few); count = sym (next e (rw (ne-eqb (getD t (a + f) 0) 0 z))) }
 
-      next : d ≡ length (those (leavesClosed m l ws t) (numbers (n + 1)))
-      next =
-          rw (add-one, numbers-snoc n, those-snoc (leavesClosed m l ws t) (numbers n) n, length-append, ← w .count, ← word)
-          (elim e [
-            | inl y ↦ rw (ne-eqb (getD t (a + f) 0) 0 (y .0)) (y .1)
-            | inr y ↦ rw (eq-eqb (getD t (a + f) 0) 0 (y .0), add-zero) (y .1)
-          ])
+    pub count-open : getD t (a + f) 0 ≡ 0 → {d : ℕ} → d ≡ c → CountTo m l ws t (n + 1) d
+    count-open z e = record { place = omega arith; few = omega (arith, w .few); count = sym (next {x = 0} (omega arith) (rw (eq-eqb (getD t (a + f) 0) 0 z))) }
 
 -- ---- closed words
 
@@ -120,27 +123,29 @@ module _ {m l : ℕ} {ws t costs : List ℕ} (h : LeadsOn m l ws t costs) {a x :
     is-suc : closedAt (u .closed) x ≡ suc (word - 1)
     is-suc = omega (arith, word-is)
 
-    closer : word - 1 < getD t 1 0
+    closer : word - 1 < usedIn t
     closer =
         let r = and-true (closedb (λ i. ltb i (length (u .nodes)) && eqb ((node (u .nodes) i) .vertex) x) (closedAt (u .closed) x)) _
         (upto-at (closerb u) m (h .closers) x k) in
         rw (word-is, ← tree-nodes m l t) (named (length (u .nodes)) (λ i. eqb ((node (u .nodes) i) .vertex) x) (closedAt (u .closed) x) (r .0) (rw word-is at n))
 
-    pub closer-words : nodeAt (word - 1) + 4 ≤ length t
+    closer-words : nodeAt (word - 1) + 4 ≤ length t
     closer-words = omega (arith, closer, h .hung .counted .used, h .hung .counted .can .len)
 
     closer-cost : evaluation (u .nodes) (word - 1) ≡ evaluationIn t (word - 1)
     closer-cost = node-cost m l t (word - 1) closer
 
-    cost-few : evaluationIn t (word - 1) ≤ 2048997951
-    cost-few = omega (arith, h .hung .cost (word - 1) closer, closer, h .hung .counted .used, h .hung .counted .can .held .sized .edges)
+    closer-small : evaluationIn t (word - 1) < 9223372036854775808
+    closer-small =
+        evaluation-small (figures (costIn t (word - 1)))
+        (omega (arith, h .hung .cost (word - 1) closer, closer, h .hung .counted .used, h .hung .counted .can .held .sized .edges))
 
   -- x is closed at more than s, or open: then a node has to wait
-  reached-waits : {s : ℕ} → s < 4294967295 → (word ≡ 0) ⊎ ((word ≢ 0) × (s < evaluationIn t (word - 1)))
+  reached-waits : {s : ℕ} → s < noCost → (word ≡ 0) ⊎ ((word ≢ 0) × (s < evaluationIn t (word - 1)))
       → leb (getD costs x 0) s ≡ reachedb (u .nodes) (u .waiting) (u .closed) x s
   unfolding reachedb
   reached-waits {s} small c =
-      waits-within m l t x s small costs (all-true (queueTests l t (getD t 2 0)) (h .queue) .0) (h .least) (omega (arith, k, h .hung .counted .can .held .sized .vertices))
+      waits-within m l ws t x s small costs (all-true (queueTests l t (queuedIn t)) (h .queue) .0) (h .least) (omega (arith, k, h .hung .counted .can .held .sized .vertices))
       ∙ sym (elim c [ inl z ↦ rw (sym word-is ∙ z) | inr z ↦ rw (is-suc (z .0), closer-cost (z .0), lt-leb (evaluationIn t (word - 1)) s (z .1)) ])
 
   reached-shut : {s : ℕ} → word ≢ 0 → evaluationIn t (word - 1) ≤ s → reachedb (u .nodes) (u .waiting) (u .closed) x s ≡ true
@@ -151,39 +156,67 @@ module _ {m l : ℕ} {ws t costs : List ℕ} (h : LeadsOn m l ws t costs) {a x :
 
 -- edge e leaves a closed vertex: it leads on if its end o is reached at no more than the sum s. a: where the closed words begin
 pub record Sum (m l : ℕ) (ws t costs : List ℕ) (e a o s : ℕ) : Type 0 where
-  pub on : LeadsOn m l ws t costs
-  pub words : a ≡ closedWordsAt l
-  pub enters : o < m
-  small : s < 4294967295
+  on : LeadsOn m l ws t costs
+  words : a ≡ closedWordsAt l
+  enters : o < m
+  small : s < noCost
   leads : onwardb (domainOf m l ws) (treeIn m l t) e ≡ reachedb (treeIn m l t .nodes) (treeIn m l t .waiting) (treeIn m l t .closed) o s
 
-module _ {m l : ℕ} {ws t costs : List ℕ} {e a f : ℕ} (h : LeadsOn m l ws t costs) (k : e < l) (p : a ≡ closedWordsAt l) (q : f ≡ getD ws (edgeAt m e + 0) 0) where
+module _ {m l e : ℕ} {ws t costs : List ℕ} (h : LeadsOn m l ws t costs) (k : e < l) {a f₀ f : ℕ} (p : a ≡ closedWordsAt l) (q₀ : f₀ ≡ fromIn m ws e) (q : f ≡ f₀) where
   leaves : (f ≡ from (domainOf m l ws .graph) e) × (f < m)
-  leaves = edge-from (h .hung .counted .can .held) k q
+  leaves = edge-from (h .hung .counted .can .held) k (q ∙ q₀)
 
-  pub onward-open : getD t (a + f) 0 ≡ 0 → onwardb (domainOf m l ws) (treeIn m l t) e ≡ true
-  onward-open z = rw (← leaves .0, ← word-is h p (leaves .1), z)
+  pub onward-place : a + f < length t
+  onward-place = closed-there (h .hung .counted .can) k p q₀ q
 
-  pub sums : {o x y : ℕ} → getD t (a + f) 0 ≢ 0 → o ≡ getD ws (edgeAt m e + 1) 0 → x ≡ evaluationIn t (getD t (a + f) 0 - 1) → y ≡ getD ws (edgeAt m e + 2) 0
-      → Sum m l ws t costs e a o (x + y)
-  sums n r i j =
-      let enters = edge-to (h .hung .counted .can .held) k r in
-      let weighs = edge-cost (h .hung .counted .can .held) k j in
-      record {
-        on = h;
-        words = p;
-        enters = enters .1;
-        small = omega (arith, i, weighs .1, cost-few h p (leaves .1) n);
-        leads = rw (← leaves .0, is-suc h p (leaves .1) n, closer-cost h p (leaves .1) n, ← weighs .0, ← enters .0, i);
-      }
+  pub onward-open : getD t (a + f) 0 ≡ 0 → true ≡ onwardb (domainOf m l ws) (treeIn m l t) e
+  onward-open z = sym (rw (← leaves .0, ← word-is h p (leaves .1), z))
+
+  module _ (n : getD t (a + f) 0 ≢ 0) where
+    pub onward-closer : nodeAt (getD t (a + f) 0 - 1) + 4 ≤ length t
+    onward-closer = closer-words h p (leaves .1) n
+
+    -- x: the evaluation of the node that closed its first end, y: what the edge weighs
+    module _ {x y₀ y : ℕ} (i : x ≡ evaluationIn t (getD t (a + f) 0 - 1)) (j₀ : y₀ ≡ edgeCostIn m ws e) (j : WeightIs y₀ y) where
+      costs-are : (y₀ ≡ cost (domainOf m l ws .graph) e) × (y₀ ≤ 999999)
+      costs-are = edge-cost (h .hung .counted .can .held) k j₀
+
+      weighs : y ≡ weight (domainOf m l ws) e
+      weighs = j (domainOf m l ws) e (sym (costs-are .0))
+
+      small-sum : x + y < noCost
+      small-sum = omega (arith, i, weighs, costs-are, closer-small h p (leaves .1) n, weight-small (domainOf m l ws) e (omega (arith, costs-are)))
+
+      pub sum-fits : x + y < 18446744073709551616
+      sum-fits = omega (arith, small-sum)
+
+      pub sums : {o₀ o : ℕ} → o₀ ≡ toIn m ws e → o ≡ o₀ → Sum m l ws t costs e a o (x + y)
+      sums r₀ r =
+          let enters = edge-to (h .hung .counted .can .held) k (r ∙ r₀) in
+          record {
+            on = h;
+            words = p;
+            enters = enters .1;
+            small = small-sum;
+            leads = rw (← leaves .0, is-suc h p (leaves .1) n, closer-cost h p (leaves .1) n, ← weighs, ← enters .0, ← i);
+          }
 
 module _ {m l : ℕ} {ws t costs : List ℕ} {e a o s : ℕ} (w : Sum m l ws t costs e a o s) where
-  pub onward-shut : {v : ℕ} → getD t (a + o) 0 ≢ 0 → v ≡ evaluationIn t (getD t (a + o) 0 - 1) → v ≤ s → onwardb (domainOf m l ws) (treeIn m l t) e ≡ true
-  onward-shut n i b = w .leads ∙ reached-shut (w .on) (w .words) (w .enters) n (omega arith)
+  pub reached-place : a + o < length t
+  reached-place = omega (arith, w .enters, w .words, w .on .hung .counted .can .len)
 
-  pub onward-waits : {v : ℕ} → v ≡ getD costs o 0 → (getD t (a + o) 0 ≡ 0) ⊎ ((getD t (a + o) 0 ≢ 0) × (s < evaluationIn t (getD t (a + o) 0 - 1)))
-      → leb v s ≡ onwardb (domainOf m l ws) (treeIn m l t) e
-  onward-waits i c = rw i (reached-waits (w .on) (w .words) (w .enters) (w .small) c ∙ sym (w .leads))
+  pub has-least : o < length costs
+  has-least = omega (arith, w .enters, w .on .least .len, w .on .hung .counted .can .held .sized .vertices)
+
+  pub reached-closer : getD t (a + o) 0 ≢ 0 → nodeAt (getD t (a + o) 0 - 1) + 4 ≤ length t
+  reached-closer n = closer-words (w .on) (w .words) (w .enters) n
+
+  pub onward-shut : {v : ℕ} → getD t (a + o) 0 ≢ 0 → v ≡ evaluationIn t (getD t (a + o) 0 - 1) → v ≤ s → true ≡ onwardb (domainOf m l ws) (treeIn m l t) e
+  onward-shut n i b = sym (w .leads ∙ reached-shut (w .on) (w .words) (w .enters) n (omega arith))
+
+  pub onward-waits : (getD t (a + o) 0 ≡ 0) ⊎ ((getD t (a + o) 0 ≢ 0) × (s < evaluationIn t (getD t (a + o) 0 - 1)))
+      → leb (getD costs o 0) s ≡ onwardb (domainOf m l ws) (treeIn m l t) e
+  onward-waits c = reached-waits (w .on) (w .words) (w .enters) (w .small) c ∙ sym (w .leads)
 
 -- ---- whether each does
 

@@ -13,11 +13,12 @@ use Rattle.model.specs.Sound.{Sound, tree, starts, soundb}
 use Rattle.model.specs.Calls.{SoundCache}
 use Rattle.model.proofs.Bools.{and-true, true-and, all-true, true-given, upto-at, at-upto}
 use Rattle.model.proofs.Tests.{sound-at, at-sound, distinct-at, at-distinct}
-use Rattle.layout.specs.Layout.{Sized, closedWordsAt, treeWords, slotAt, needed}
-use Rattle.layout.specs.Read.{treeIn, treesIn, domainOf, readCache}
-use Rattle.layout.specs.Sound.{headerTests, graphTests, formedb, treeWordsb, slotWords, treesTests, soundWordsb}
+use Rattle.layout.specs.Layout.{Sized, closedWordsAt, treeWords, slotAt, needed, edgesIn, slotsIn, treesIn, usedIn, verticesIn}
+use Rattle.layout.specs.Read.{treeIn, readTrees, domainOf, readCache}
+use Rattle.layout.specs.Sound.{headerTests, graphTests, formedb, treeWordsb, treesTests, soundWordsb}
 use Rattle.layout.proofs.Edges.{vertex-count-in}
 use Rattle.layout.proofs.Trees.{tree-nodes, tree-closed}
+use Rattle.layout.specs.Slots.{slotWords}
 use Rattle.tree.specs.Tree.{Formed}
 use Rattle.tree.proofs.Parts.{zeros-at, at-zeros}
 use Rattle.tree.proofs.Form.{formed-at, at-formed}
@@ -30,7 +31,7 @@ use Rattle.sound.proofs.Slots.{slot-length, tree-in-at, start-in-at, tr
 
 module _ (d : Domain) (m l : ℕ) (t : List ℕ) where
   -- a closed word of a sound tree is 0, or one more than a node
-  closers : length t ≡ treeWords m l → Sound d (treeIn m l t) → (v : ℕ) → closedWordsAt l + v < length t → getD t (closedWordsAt l + v) 0 ≤ getD t 1 0
+  closers : length t ≡ treeWords m l → Sound d (treeIn m l t) → (v : ℕ) → closedWordsAt l + v < length t → getD t (closedWordsAt l + v) 0 ≤ usedIn t
   closers len ok v h = elim (ℕ-discrete w 0) [
     | yes z ↦ omega arith
     | no nz ↦ omega (arith, ok .closer v (w - 1) (tree-closed m l t v (omega arith) ∙ omega arith) .0, tree-nodes m l t)
@@ -54,13 +55,13 @@ module _ (d : Domain) (m l : ℕ) (t : List ℕ) where
 
 module _ (ws : List ℕ) where
   abbrev m : ℕ
-  m = getD ws 1 0
+  m = verticesIn ws
 
   abbrev l : ℕ
-  l = getD ws 2 0
+  l = edgesIn ws
 
   abbrev u : ℕ
-  u = getD ws 4 0
+  u = treesIn ws
 
   pub sound-words-at : soundWordsb ws ≡ true → SoundWords ws
   unfolding soundWordsb
@@ -69,7 +70,7 @@ module _ (ws : List ℕ) where
       let q = and-true (allb (graphTests (readCache ws .domain) ws)) (allb (treesTests ws)) (p .1) in
       let h = headed ws (p .0) in
       let t = all-true (treesTests ws) (q .1) in
-      let len : (i : ℕ) → i < u → length (slotWords m l i ws) ≡ treeWords m l = λ i k. slot-length m l ws {n = getD ws 3 0} (omega (arith, h .used)) (h .fits) in
+      let len : (i : ℕ) → i < u → length (slotWords m l i ws) ≡ treeWords m l = λ i k. slot-length m l ws {n = slotsIn ws} (omega (arith, h .used)) (h .fits) in
       let tree-at : (i : ℕ) → i < u → Formed l (slotWords m l i ws) × Sound (domainOf m l ws) (treeIn m l (slotWords m l i ws)) =
       λ i k. tree-words-at (domainOf m l ws) m l (slotWords m l i ws) (h .sized) (len i k) (upto-at _ u (t .1 .0) i k) in
       record {
@@ -82,10 +83,10 @@ module _ (ws : List ℕ) where
         held = held-at ws (p .0) (q .0);
         differ = λ i j a b s.
             let n = starts-in-length m l u ws in
-            distinct-at (starts (treesIn m l u ws)) (t .0) i j (omega arith) (omega arith) (start-in-at m l ws a ∙ s ∙ sym (start-in-at m l ws b));
+            distinct-at (starts (readTrees m l u ws)) (t .0) i j (omega arith) (omega arith) (start-in-at m l ws a ∙ s ∙ sym (start-in-at m l ws b));
         formed = λ i k. tree-at i k .0;
         sound = λ i k. tree-at i k .1;
-        spare = zeros-at ws (slotAt m l u) (needed m l (getD ws 3 0)) (t .1 .1 .0);
+        spare = zeros-at ws (slotAt m l u) (needed m l (slotsIn ws)) (t .1 .1 .0);
       }
 
   module _ (ok : SoundWords ws) where
@@ -105,12 +106,12 @@ module _ (ws : List ℕ) where
     trees-pass =
         let n = starts-in-length m l u ws in
         true-given (treesTests ws)
-        (at-distinct (starts (treesIn m l u ws)) (λ i j a b s.
+        (at-distinct (starts (readTrees m l u ws)) (λ i j a b s.
         let h : i < u = omega arith in
         let k : j < u = omega arith in
         ok .differ i j h k (sym (start-in-at m l ws h) ∙ s ∙ start-in-at m l ws k)))
         (at-upto _ u (λ i k. at-tree-words (domainOf m l ws) m l (slotWords m l i ws) (ok .formed i k) (ok .sound i k)))
-        (at-zeros ws (slotAt m l u) (needed m l (getD ws 3 0)) (ok .spare))
+        (at-zeros ws (slotAt m l u) (needed m l (slotsIn ws)) (ok .spare))
 
     pub at-sound-words : soundWordsb ws ≡ true
     unfolding soundWordsb
@@ -150,6 +151,6 @@ module _ (ws : List ℕ) where
   }
 
 -- the vertices of the cache that sound words hold
-pub vertices-read : {ws : List ℕ} → SoundWords ws → vertexCount (readCache ws .domain .graph) ≡ getD ws 1 0
+pub vertices-read : {ws : List ℕ} → SoundWords ws → vertexCount (readCache ws .domain .graph) ≡ verticesIn ws
 unfolding readCache
-vertices-read {ws} ok = vertex-count-in (getD ws 1 0) (getD ws 2 0) ws (omega (arith, ok .held .fits))
+vertices-read {ws} ok = vertex-count-in (verticesIn ws) (edgesIn ws) ws (omega (arith, ok .held .fits))

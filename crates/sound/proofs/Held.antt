@@ -15,9 +15,9 @@ use lib.Seq.{getD-drop}
 use Rattle.model.specs.Lists.{allb, upto}
 use Rattle.model.specs.Graph.{Graph, Domain, Accepted, absent, from, to, cost, vertexCount, edgeCount, edgeNumbers}
 use Rattle.model.proofs.Bools.{AllTrue, or-cases, true-or-left, true-or-right, all-true, true-given, upto-at, at-upto, upto-same}
-use Rattle.layout.specs.Layout.{Sized, initialAt, edgesAt, placesAt, numbersAt, slotsAt, part}
+use Rattle.layout.specs.Layout.{Sized, initialAt, edgesAt, placesAt, numbersAt, slotsAt, part, edgesIn, verticesIn, initialIn, fromIn, toIn, placeIn, numberIn}
 use Rattle.layout.specs.Words.{firstPlace, firstPlaces}
-use Rattle.layout.specs.Read.{directionOf, edgesIn, graphIn, domainOf, readCache}
+use Rattle.layout.specs.Read.{directionOf, readEdges, graphIn, domainOf, readCache}
 use Rattle.layout.specs.Sound.{headerTests, initialb, edgeTests, indexTests, indexb, graphTests}
 use Rattle.layout.specs.Held.{Held}
 use Rattle.layout.proofs.Edges.{initial-word, vertex-count-in, edge-count-in, from-word, to-word}
@@ -89,12 +89,12 @@ module _ (m l : ℕ) (ws : List ℕ) (fits : slotsAt m l ≤ length ws) where
   abbrev numbers : List ℕ
   numbers = part (numbersAt (vertexCount g) (edgeCount g)) (edgeCount g) ws
 
-  place-word : (v : ℕ) → v ≤ m → getD places v 0 ≡ getD ws (placesAt m l + v) 0
+  place-word : (v : ℕ) → v ≤ m → getD places v 0 ≡ placeIn m l ws v
   place-word v h =
       part-at (placesAt (vertexCount g) (edgeCount g)) (vertexCount g + 1) ws v (omega (arith, vertices))
       ∙ ap (λ (n : ℕ). getD ws n 0) (omega (arith, vertices, edges))
 
-  number-word : (p : ℕ) → p < l → getD numbers p 0 ≡ getD ws (numbersAt m l + p) 0
+  number-word : (p : ℕ) → p < l → getD numbers p 0 ≡ numberIn m l ws p
   number-word p h =
       part-at (numbersAt (vertexCount g) (edgeCount g)) (edgeCount g) ws p (omega (arith, edges)) ∙ ap (λ (n : ℕ). getD ws n 0) (omega (arith, vertices, edges))
 
@@ -134,21 +134,21 @@ held-graph m l ws h =
 
 -- ---- the same, of the whole cache
 
-domain-read : (ws : List ℕ) → readCache ws .domain ≡ domainOf (getD ws 1 0) (getD ws 2 0) ws
+domain-read : (ws : List ℕ) → readCache ws .domain ≡ domainOf (verticesIn ws) (edgesIn ws) ws
 unfolding readCache
 domain-read ws = refl
 
-pub held-at : (ws : List ℕ) → allb (headerTests ws) ≡ true → allb (graphTests (readCache ws .domain) ws) ≡ true → Held (getD ws 1 0) (getD ws 2 0) ws
+pub held-at : (ws : List ℕ) → allb (headerTests ws) ≡ true → allb (graphTests (readCache ws .domain) ws) ≡ true → Held (verticesIn ws) (edgesIn ws) ws
 held-at ws h t =
     let r = headed ws h in
-    graph-held (getD ws 1 0) (getD ws 2 0) ws (omega (arith, r .fits)) (r .sized) (subst (λ (d : Domain). allb (graphTests d ws) ≡ true) (domain-read ws) t)
+    graph-held (verticesIn ws) (edgesIn ws) ws (omega (arith, r .fits)) (r .sized) (subst (λ (d : Domain). allb (graphTests d ws) ≡ true) (domain-read ws) t)
 
-pub at-held : (ws : List ℕ) → Held (getD ws 1 0) (getD ws 2 0) ws → allb (graphTests (readCache ws .domain) ws) ≡ true
-at-held ws held = subst (λ (d : Domain). allb (graphTests d ws) ≡ true) (sym (domain-read ws)) (held-graph (getD ws 1 0) (getD ws 2 0) ws held)
+pub at-held : (ws : List ℕ) → Held (verticesIn ws) (edgesIn ws) ws → allb (graphTests (readCache ws .domain) ws) ≡ true
+at-held ws held = subst (λ (d : Domain). allb (graphTests d ws) ≡ true) (sym (domain-read ws)) (held-graph (verticesIn ws) (edgesIn ws) ws held)
 
 -- ---- where the words before the slots stay
 
-edges-same : (l : ℕ) (ws ws′ : List ℕ) → ((j : ℕ) → j < 3 * l → getD ws′ j 0 ≡ getD ws j 0) → edgesIn l ws′ ≡ edgesIn l ws
+edges-same : (l : ℕ) (ws ws′ : List ℕ) → ((j : ℕ) → j < 3 * l → getD ws′ j 0 ≡ getD ws j 0) → readEdges l ws′ ≡ readEdges l ws
 edges-same zero ws ws′ f = refl
 edges-same (suc l) ws ws′ f = λ i.
     record { from = f 0 (omega arith) i; to = f 1 (omega arith) i; cost = f 2 (omega arith) i }
@@ -163,7 +163,7 @@ module _ (m l : ℕ) (ws ws′ : List ℕ) (len : length ws′ ≡ length ws) (s
       initials : part initialAt m ws′ ≡ part initialAt m ws
       initials = part-same initialAt m ws ws′ len (λ j k. same (initialAt + j) (omega arith) (omega arith))
 
-      edges : edgesIn l (drop (edgesAt m) ws′) ≡ edgesIn l (drop (edgesAt m) ws)
+      edges : readEdges l (drop (edgesAt m) ws′) ≡ readEdges l (drop (edgesAt m) ws)
       edges = edges-same l (drop (edgesAt m) ws) (drop (edgesAt m) ws′) (λ j h.
           getD-drop (edgesAt m) ws′ j 0 ∙ same (edgesAt m + j) (omega arith) (omega arith) ∙ sym (getD-drop (edgesAt m) ws j 0))
 
@@ -182,7 +182,7 @@ module _ (m l : ℕ) (ws ws′ : List ℕ) (len : length ws′ ≡ length ws) (s
 -- ---- what is known where the tests of initial costs and edges passed
 
 -- the initial costs, as the words and as the graph have them
-pub initials-as : (m l : ℕ) (ws : List ℕ) → 5 + m ≤ length ws → upto (λ v. initialb (getD ws (5 + v) 0)) m ≡ upto (λ v. initialb (getD (graphIn m l ws .initial) v absent)) m
+pub initials-as : (m l : ℕ) (ws : List ℕ) → 5 + m ≤ length ws → upto (λ v. initialb (initialIn ws v)) m ≡ upto (λ v. initialb (getD (graphIn m l ws .initial) v absent)) m
 initials-as m l ws h = upto-same _ _ m (λ v k. ap initialb (sym (initial-word m l ws v absent k h)))
 
 module _ (m l : ℕ) (ws : List ℕ) (fits : 5 + m ≤ length ws) (passed : upto (λ e. allb (edgeTests (graphIn m l ws) e)) l ≡ true) where
@@ -194,8 +194,8 @@ module _ (m l : ℕ) (ws : List ℕ) (fits : 5 + m ≤ length ws) (passed : upto
       let t = edge-at held l passed e h in
       omega (arith, vertex-count-in m l ws fits, ltb-true (from held e) (vertexCount held) (t .0), ltb-true (to held e) (vertexCount held) (t .1 .0))
 
-  pub edges-from : (e : ℕ) → e < l → getD ws (edgesAt m + 3 * e) 0 < m
+  pub edges-from : (e : ℕ) → e < l → fromIn m ws e < m
   edges-from e h = rw (← from-word m l ws e h) (ends e h .0)
 
-  pub edges-to : (e : ℕ) → e < l → getD ws (edgesAt m + 3 * e + 1) 0 < m
+  pub edges-to : (e : ℕ) → e < l → toIn m ws e < m
   edges-to e h = rw (← to-word m l ws e h) (ends e h .1)

@@ -12,12 +12,13 @@ use borrow.Author.Tests.{ltb-true, le-leb, lt-leb}
 use Rattle.model.specs.Lists.{allBelow, anyIn}
 use Rattle.model.specs.Tree.{node, evaluation}
 use Rattle.model.proofs.Bools.{and-true}
-use Rattle.layout.specs.Layout.{nodeAt}
+use Rattle.layout.specs.Layout.{usedIn, vertexIn}
 use Rattle.layout.specs.Read.{treeIn}
 use Rattle.layout.specs.Sound.{queueIn}
 use Rattle.layout.proofs.Trees.{tree-node}
 use Rattle.queue.specs.Queue.{evaluationIn}
-use Rattle.sound.specs.Check.{lesserIf, leastCost, LeastCosts}
+use Rattle.queue.proofs.Keys.{node-evaluation}
+use Rattle.sound.specs.Check.{noCost, lesserIf, leastCost, LeastCosts}
 use Rattle.sound.proofs.Waiting.{any-waiting}
 
 lesser-within : (b : Bool) (x y k : ℕ) → leb (lesserIf b x y) k ≡ ((b && leb x k) || leb y k)
@@ -30,19 +31,19 @@ lesser-within true x y k = elim (decLe x k) [
   ]
 ]
 
-module _ (m l : ℕ) (t : List ℕ) (v k : ℕ) (small : k < 4294967295) where
+module _ (m l : ℕ) (ws t : List ℕ) (v k : ℕ) (small : k < noCost) where
   abbrev within : ℕ → Bool
   within i = eqb ((node (treeIn m l t .nodes) i) .vertex) v && leb (evaluation (treeIn m l t .nodes) i) k
 
-  least-within : (xs : List ℕ) → allBelow (getD t 1 0) xs ≡ true → leb (leastCost t xs v) k ≡ anyIn within xs
+  least-within : (xs : List ℕ) → allBelow (usedIn t) xs ≡ true → leb (leastCost ws t xs v) k ≡ anyIn within xs
   unfolding leastCost anyIn
-  least-within [] e = lt-leb 4294967295 k small
+  least-within [] e = lt-leb noCost k small
   least-within (x ∷ xs) e =
-      let r = and-true (ltb x (getD t 1 0)) (allBelow (getD t 1 0) xs) e in
-      rw (tree-node m l t x (ltb-true x (getD t 1 0) (r .0)), ← least-within xs (r .1))
-      (lesser-within (eqb (getD t (nodeAt x) 0) v) (evaluationIn t x) (leastCost t xs v) k)
+      let r = and-true (ltb x (usedIn t)) (allBelow (usedIn t) xs) e in
+      rw (tree-node m l t x (ltb-true x (usedIn t) (r .0)), node-evaluation t x, ← least-within xs (r .1))
+      (lesser-within (eqb (vertexIn ws t x) v) (evaluationIn t x) (leastCost ws t xs v) k)
 
-  pub waits-within : (costs : List ℕ) → allBelow (getD t 1 0) (queueIn l t) ≡ true → LeastCosts costs t (queueIn l t) → v < 1024
+  pub waits-within : (costs : List ℕ) → allBelow (usedIn t) (queueIn l t) ≡ true → LeastCosts costs ws t (queueIn l t) → v < 1024
       → leb (getD costs v 0) k ≡ anyIn within (treeIn m l t .waiting)
   waits-within costs below c h =
       ap (λ (x : ℕ). leb x k) (c .least v h) ∙ least-within (queueIn l t) below ∙ sym (any-waiting m l t below within)

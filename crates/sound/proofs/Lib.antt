@@ -13,5 +13,6 @@ pub mod Tables
 pub mod TreeTests
 pub mod Slots
 pub mod Facts
+pub mod InUse
 pub mod Cache
 pub mod Opened

@@ -1,114 +1,109 @@
 -- A tree's counts, its root and its other nodes, word by word: the tests of them, and what is so if all pass.
 -- Assumes nothing.
-use mathlib.Core.Path.{_≡_, refl, sym, ap, _∙_, subst}
+use mathlib.Core.Path.{_≡_, refl, sym, ap, ap₂, _∙_}
 use mathlib.Core.Logic.{_≢_}
 use mathlib.Core.Bool.{Bool, true, false, not, _||_}
 use mathlib.Core.List.{List, [], _∷_}
-use Prim.Native.Nat.{ℕ, zero, suc, _+_, _<_, _≤_}
-use native.Mathlib.Nat.{add-zero}
+use Prim.Native.Nat.{ℕ, suc, _+_, _<_, _≤_}
+use native.Mathlib.Numerals.{add-one}
 use native.Mathlib.Omega.{arith}
-use borrow.Author.Tests.{ltb-true, eqb-true, eqb-false, not-true, not-false, lt-ltb, le-ltb, le-leb, lt-leb, ne-eqb}
+use borrow.Author.Tests.{ltb-true, eqb-true, eqb-false, not-true, lt-ltb, le-ltb, le-leb, lt-leb, eq-eqb, ne-eqb}
 use lib.Dec.{eqb, leb, ltb}
 use lib.ListN.{length, getD}
 use Rattle.model.specs.Lists.{allb, upto}
 use Rattle.model.specs.Graph.{Graph, Domain, Accepted, from, to, cost, absent, vertexCount, edgeCount, rootCost, initialCost}
 use Rattle.model.specs.Tree.{Tree, Node, node, closedAt}
 use Rattle.model.specs.Sound.{Hangs, hangTests, hangsb, rootTests, hangAllb}
-use Rattle.model.proofs.Bools.{AllTrue, all-true, true-or-right}
+use Rattle.model.proofs.Bools.{AllTrue, all-true}
 use Rattle.model.proofs.Tests.{all-hang}
 use Rattle.model.proofs.Least.{hung-inside}
 use Rattle.model.proofs.Room.{initial-bound, hung-cost}
-use Rattle.layout.specs.Layout.{initialAt, edgeAt, nodeAt}
-use Rattle.layout.specs.Read.{graphIn, directionOf, treeIn, domainOf}
+use Rattle.layout.specs.Layout.{initialAt, closedWordsAt, costIn, directionIn, edgeCostIn, edgeIn, fromIn, initialIn, parentIn, queuedIn, startIn, toIn, usedIn, vertexIn}
+use Rattle.layout.specs.Read.{nodeIn, graphIn, directionOf, treeIn, domainOf}
 use Rattle.layout.proofs.Edges.{initial-word, vertex-count-in, edge-count-in, from-word, to-word, cost-word}
-use Rattle.layout.proofs.Trees.{nodeIn, tree-nodes, tree-node}
+use Rattle.layout.proofs.Trees.{tree-nodes, tree-node}
 use Rattle.sound.specs.Check.{countTests, Counted, Hung}
-use Rattle.sound.proofs.Tests.{upto-fails, upto-passes, all-fails, read-last}
+use Rattle.sound.proofs.Tests.{one-fails, one-more, all-passed, all-fails, read-fails, read-last, read-below, read-same, read-differ}
+use Rattle.sound.proofs.Edges.{edge-from, closed-word, closed-there, closed-small}
 
 -- ---- counts
 
 -- u and q are read as the counts
-pub no-node : (l : ℕ) (t : List ℕ) {u : ℕ} → u ≡ getD t 1 0 → u ≡ 0 → false ≡ allb (countTests l t)
-no-node l t e z = sym (all-fails (countTests l t) 0 (le-ltb 0 (getD t 1 0) (omega arith)))
+pub no-node : (l : ℕ) (t : List ℕ) {u : ℕ} → u ≡ usedIn t → u ≡ 0 → false ≡ allb (countTests l t)
+no-node l t e z = sym (all-fails (countTests l t) 0 (le-ltb 0 (usedIn t) (omega arith)))
 
-pub many-nodes : (l : ℕ) (t : List ℕ) {u : ℕ} → u ≡ getD t 1 0 → 1 + l < u → false ≡ allb (countTests l t)
-many-nodes l t e h = sym (all-fails (countTests l t) 1 (lt-leb (getD t 1 0) (1 + l) (omega arith)))
+pub many-nodes : (l : ℕ) (t : List ℕ) {u : ℕ} → u ≡ usedIn t → 1 + l < u → false ≡ allb (countTests l t)
+many-nodes l t e h = sym (all-fails (countTests l t) 1 (lt-leb (usedIn t) (1 + l) (omega arith)))
 
-pub some-nodes : (l : ℕ) (t : List ℕ) {u q : ℕ} → u ≡ getD t 1 0 → (u ≡ 0 → ⊥) → u ≤ 1 + l → q ≡ getD t 2 0 → leb q (1 + l) ≡ allb (countTests l t)
+pub some-nodes : (l : ℕ) (t : List ℕ) {u q : ℕ} → u ≡ usedIn t → (u ≡ 0 → ⊥) → u ≤ 1 + l → q ≡ queuedIn t → leb q (1 + l) ≡ allb (countTests l t)
 some-nodes l t e z h f =
-    ap (λ (x : ℕ). leb x (1 + l)) f ∙ read-last {cs = countTests l t} refl 2 refl (lt-ltb 0 (getD t 1 0) (omega arith)) (le-leb (getD t 1 0) (1 + l) (omega arith))
+    ap (λ (x : ℕ). leb x (1 + l)) f ∙ read-last {cs = countTests l t} refl 2 refl (lt-ltb 0 (usedIn t) (omega arith)) (le-leb (usedIn t) (1 + l) (omega arith))
 
 -- ---- the root
 
-pub forward-cost : {n x c : ℕ} → n ≡ 0 → c ≡ x → c ≡ rootCost (directionOf n) x
-forward-cost {n} {x} e q = q ∙ ap (λ (k : ℕ). rootCost (directionOf k) x) (sym e)
-
-pub backward-cost : (n x : ℕ) → (n ≡ 0 → ⊥) → 0 ≡ rootCost (directionOf n) x
-backward-cost zero x z = absurd (z refl)
-backward-cost (suc n) x z = refl
-
 pub start-cost : (m l : ℕ) (ws : List ℕ) (v : ℕ) → v < m → initialAt + m ≤ length ws
-    → initialCost (domainOf m l ws) v ≡ rootCost (directionOf (getD ws 0 0)) (getD ws (initialAt + v) 0)
+    → initialCost (domainOf m l ws) v ≡ rootCost (directionOf (directionIn ws)) (initialIn ws v)
 unfolding initialCost
-start-cost m l ws v h fits = ap (rootCost (directionOf (getD ws 0 0))) (initial-word m l ws v absent h fits)
-
--- the root's tests as its words have them: s the start vertex, c its cost
-abbrev pub rootWords : ℕ → ℕ → ℕ → List ℕ → List Bool
-rootWords m s c t =
-    ltb s m
-    ∷ not (eqb c absent)
-    ∷ eqb (getD t (nodeAt 0 + 0) 0) s
-    ∷ eqb (getD t (nodeAt 0 + 1) 0) c
-    ∷ eqb (getD t (nodeAt 0 + 2) 0) absent
-    ∷ eqb (getD t (nodeAt 0 + 3) 0) absent
-    ∷ []
+start-cost m l ws v h fits = ap (rootCost (directionOf (directionIn ws))) (initial-word m l ws v absent h fits)
 
 module _ {m l : ℕ} {ws t : List ℕ} (h : Counted m l ws t) where
   vertices : vertexCount (graphIn m l ws) ≡ m
   vertices = vertex-count-in m l ws (omega (arith, h .can .held .fits))
 
-  pub root-outside : {v : ℕ} → v ≡ getD t 0 0 → m ≤ v → false ≡ allb (rootTests (domainOf m l ws) (treeIn m l t))
+  pub root-outside : {v : ℕ} → v ≡ startIn t → m ≤ v → false ≡ allb (rootTests (domainOf m l ws) (treeIn m l t))
   unfolding treeIn
-  root-outside e o = sym (all-fails (rootTests (domainOf m l ws) (treeIn m l t)) 0 (le-ltb (getD t 0 0) (vertexCount (graphIn m l ws)) (omega (arith, vertices))))
+  root-outside e o = sym (all-fails (rootTests (domainOf m l ws) (treeIn m l t)) 0 (le-ltb (startIn t) (vertexCount (graphIn m l ws)) (omega (arith, vertices))))
 
   -- v and w are read as the start vertex, c as its cost
-  pub root-words : {v w c : ℕ} → v ≡ getD t 0 0 → v < m → w ≡ getD t 0 0 → c ≡ rootCost (directionOf (getD ws 0 0)) (getD ws (initialAt + w) 0)
-      → rootTests (domainOf m l ws) (treeIn m l t) ≡ rootWords m (getD t 0 0) c t
-  unfolding treeIn
-  root-words {v} {w} {c} ev o ew ec = λ i. tests (vertices i) (costs i) (root i)
-    where
-      s : ℕ
-      s = getD t 0 0
+  module _ {v w c : ℕ} (ev : v ≡ startIn t) (o : v < m) (ew : w ≡ startIn t) (ec : c ≡ rootCost (directionOf (directionIn ws)) (initialIn ws w)) where
+    -- the tests as the words have them
+    abbrev rootWords : List Bool
+    rootWords = ltb (startIn t) m ∷ not (eqb c absent) ∷ eqb (vertexIn ws t 0) (startIn t) ∷ eqb (costIn t 0) c ∷ eqb (parentIn t 0) absent ∷ eqb (edgeIn t 0) absent ∷ []
 
-      tests : ℕ → ℕ → Node → List Bool
-      tests n k x = ltb s n ∷ not (eqb k absent) ∷ eqb (x .vertex) s ∷ eqb (x .cost) k ∷ eqb (x .parent) absent ∷ eqb (x .edge) absent ∷ []
+    words : rootTests (domainOf m l ws) (treeIn m l t) ≡ rootWords
+    unfolding treeIn
+    words = λ i. tests (vertices i) (costs i) (root i)
+      where
+        s : ℕ
+        s = startIn t
 
-      costs : initialCost (domainOf m l ws) s ≡ c
-      costs =
-          start-cost m l ws s (omega arith) (omega (arith, h .can .held .fits))
-          ∙ sym (ec ∙ ap (λ (x : ℕ). rootCost (directionOf (getD ws 0 0)) (getD ws (initialAt + x) 0)) ew)
+        tests : ℕ → ℕ → Node → List Bool
+        tests n k x = ltb s n ∷ not (eqb k absent) ∷ eqb (x .vertex) s ∷ eqb (x .cost) k ∷ eqb (x .parent) absent ∷ eqb (x .edge) absent ∷ []
 
-      root : node (treeIn m l t .nodes) 0 ≡ nodeIn t (nodeAt 0)
-      root = tree-node m l t 0 (h .some-node)
+        costs : initialCost (domainOf m l ws) s ≡ c
+        costs =
+            start-cost m l ws s (omega arith) (omega (arith, h .can .held .fits))
+            ∙ sym (ec ∙ ap (λ (x : ℕ). rootCost (directionOf (directionIn ws)) (initialIn ws x)) ew)
+
+        root : node (treeIn m l t .nodes) 0 ≡ nodeIn t 0
+        root = tree-node m l t 0 (h .some-node)
+
+    abbrev Answered : Bool → Type 0
+    Answered r = r ≡ allb (rootTests (domainOf m l ws) (treeIn m l t))
+
+    pub root-absent : c ≡ absent → Answered false
+    root-absent e = read-fails words 1 (ap not (eq-eqb c absent e))
+
+    -- x, y, z, u are read as the root's vertex, cost, parent and edge
+    pub root-vertex : {x : ℕ} → x ≡ vertexIn ws t 0 → (x ≡ startIn t → ⊥) → Answered false
+    root-vertex ex n = read-fails words 2 (read-differ ex refl n)
+
+    pub root-cost : {y : ℕ} → y ≡ costIn t 0 → (y ≡ c → ⊥) → Answered false
+    root-cost ey n = read-fails words 3 (read-differ ey refl n)
+
+    pub root-parent : {z : ℕ} → z ≡ parentIn t 0 → (z ≡ absent → ⊥) → Answered false
+    root-parent ez n = read-fails words 4 (read-differ ez refl n)
+
+    pub root-last : {x y z u : ℕ} → (c ≡ absent → ⊥) → x ≡ vertexIn ws t 0 → x ≡ startIn t → y ≡ costIn t 0 → y ≡ c → z ≡ parentIn t 0 → z ≡ absent
+        → u ≡ edgeIn t 0 → Answered (eqb u absent)
+    root-last some ex sx ey sy ez sz eu =
+        ap (λ (k : ℕ). eqb k absent) eu
+        ∙ read-last words 5 refl (read-below ev o) (ap not (ne-eqb c absent some)) (read-same ex refl sx) (read-same ey refl sy) (read-same ez refl sz)
 
 -- ---- the other nodes
 
--- a node's tests as its words have them: p its parent, e its edge
-abbrev pub hangWords : ℕ → ℕ → List ℕ → List ℕ → List ℕ → ℕ → ℕ → ℕ → List Bool
-hangWords m l ws t cl i p e =
-    ltb p i
-    ∷ ltb e l
-    ∷ eqb (getD ws (edgeAt m e + 0) 0) (getD t (nodeAt p + 0) 0)
-    ∷ eqb (getD ws (edgeAt m e + 1) 0) (getD t (nodeAt i + 0) 0)
-    ∷ eqb (getD t (nodeAt i + 1) 0) (getD t (nodeAt p + 1) 0 + getD ws (edgeAt m e + 2) 0)
-    ∷ eqb (closedAt cl (getD t (nodeAt p + 0) 0)) (suc p)
-    ∷ []
-
-first-word : (xs : List ℕ) (k : ℕ) → getD xs k 0 ≡ getD xs (k + 0) 0
-first-word xs k = ap (λ (j : ℕ). getD xs j 0) (sym (add-zero k))
-
--- node i is there; p is read as its parent, e as its edge
-module _ {m l i : ℕ} {ws t : List ℕ} (h : Counted m l ws t × (i < getD t 1 0)) where
+-- node i is there; p is read as its parent
+module _ {m l i : ℕ} {ws t : List ℕ} (h : Counted m l ws t × (i < usedIn t)) {p₀ p : ℕ} (rp₀ : p₀ ≡ parentIn t i) (rp : p ≡ p₀) where
   abbrev g : Graph
   g = graphIn m l ws
 
@@ -118,72 +113,110 @@ module _ {m l i : ℕ} {ws t : List ℕ} (h : Counted m l ws t × (i < getD t 1 
   abbrev cl : List ℕ
   cl = treeIn m l t .closed
 
-  parent-of : (node ns i) .parent ≡ getD t (nodeAt i + 2) 0
-  parent-of = ap (λ (x : Node). x .parent) (tree-node m l t i (h .1))
+  abbrev Hangs? : Bool → Type 0
+  Hangs? r = r ≡ hangsb (domainOf m l ws) ns cl i
 
-  edge-of : (node ns i) .edge ≡ getD t (nodeAt i + 3) 0
-  edge-of = ap (λ (x : Node). x .edge) (tree-node m l t i (h .1))
+  this : node ns i ≡ nodeIn t i
+  this = tree-node m l t i (h .1)
 
-  pub hang-above : {p : ℕ} → p ≡ getD t (nodeAt i + 2) 0 → i ≤ p → false ≡ hangsb (domainOf m l ws) ns cl i
+  number : (node ns i) .parent ≡ p
+  number = ap (λ (x : Node). x .parent) this ∙ sym (rp ∙ rp₀)
+
+  pub hang-above : i ≤ p → Hangs? false
   unfolding hangsb
-  hang-above rp o = sym (all-fails (hangTests (domainOf m l ws) ns cl i) 0 (le-ltb ((node ns i) .parent) i (omega (arith, parent-of))))
+  hang-above o = sym (all-fails (hangTests (domainOf m l ws) ns cl i) 0 (le-ltb ((node ns i) .parent) i (omega (arith, number))))
 
-  pub hang-outside : {e : ℕ} → e ≡ getD t (nodeAt i + 3) 0 → l ≤ e → false ≡ hangsb (domainOf m l ws) ns cl i
-  unfolding hangsb
-  hang-outside re o = sym (all-fails (hangTests (domainOf m l ws) ns cl i) 1 (le-ltb ((node ns i) .edge) (edgeCount g) (omega (arith, edge-of, edge-count-in m l ws))))
+  -- e is read as its edge
+  module _ (op : p < i) {e₀ e : ℕ} (re₀ : e₀ ≡ edgeIn t i) (re : e ≡ e₀) where
+    edge : (node ns i) .edge ≡ e
+    edge = ap (λ (x : Node). x .edge) this ∙ sym (re ∙ re₀)
 
-  pub hang-words : {p e : ℕ} → p ≡ getD t (nodeAt i + 2) 0 → p < i → e ≡ getD t (nodeAt i + 3) 0 → e < l
-      → hangTests (domainOf m l ws) ns cl i ≡ hangWords m l ws t cl i p e
-  hang-words {p} {e} rp op re oe = λ k.
-      tests (number k) (edge k) (edge-count-in m l ws k)
-      ((ap (from g) edge ∙ from-word m l ws e oe ∙ first-word ws (edgeAt m e)) k) ((ap (to g) edge ∙ to-word m l ws e oe) k) ((ap (cost g) edge ∙ cost-word m l ws e oe) k)
-      ((ap (λ (x : Node). x .vertex) this ∙ first-word t (nodeAt i)) k) (this k .cost)
-      ((ap (λ (x : Node). x .vertex) parent ∙ first-word t (nodeAt p)) k) (parent k .cost)
-    where
-      number : (node ns i) .parent ≡ p
-      number = parent-of ∙ sym rp
+    pub hang-outside : l ≤ e → Hangs? false
+    unfolding hangsb
+    hang-outside o = sym (all-fails (hangTests (domainOf m l ws) ns cl i) 1 (le-ltb ((node ns i) .edge) (edgeCount g) (omega (arith, edge, edge-count-in m l ws))))
 
-      edge : (node ns i) .edge ≡ e
-      edge = edge-of ∙ sym re
+    module _ (oe : e < l) where
+      -- the tests as the words have them
+      abbrev hangWords : List Bool
+      hangWords =
+          ltb p i
+          ∷ ltb e l
+          ∷ eqb (fromIn m ws e) (vertexIn ws t p)
+          ∷ eqb (toIn m ws e) (vertexIn ws t i)
+          ∷ eqb (costIn t i) (costIn t p + edgeCostIn m ws e)
+          ∷ eqb (closedAt cl (vertexIn ws t p)) (suc p)
+          ∷ []
 
-      this : node ns i ≡ nodeIn t (nodeAt i)
-      this = tree-node m l t i (h .1)
+      hang-words : hangTests (domainOf m l ws) ns cl i ≡ hangWords
+      hang-words = λ k.
+          tests (number k) (edge k) (edge-count-in m l ws k)
+          ((ap (from g) edge ∙ from-word m l ws e oe) k) ((ap (to g) edge ∙ to-word m l ws e oe) k) ((ap (cost g) edge ∙ cost-word m l ws e oe) k) (this k) (parent k)
+        where
+          parent : node ns ((node ns i) .parent) ≡ nodeIn t p
+          parent = ap (node ns) number ∙ tree-node m l t p (omega (arith, h .1))
 
-      parent : node ns ((node ns i) .parent) ≡ nodeIn t (nodeAt p)
-      parent = ap (node ns) number ∙ tree-node m l t p (omega (arith, h .1))
+          -- by the parent's number, the edge's, the number of edges; the edge's words; the node, the parent
+          tests : ℕ → ℕ → ℕ → ℕ → ℕ → ℕ → Node → Node → List Bool
+          tests p e n a b c x y =
+              ltb p i ∷ ltb e n ∷ eqb a (y .vertex) ∷ eqb b (x .vertex) ∷ eqb (x .cost) (y .cost + c) ∷ eqb (closedAt cl (y .vertex)) (suc p) ∷ []
 
-      -- by the parent's number, the edge's, the number of edges; the edge's words; the node's vertex and cost; the parent's
-      tests : ℕ → ℕ → ℕ → ℕ → ℕ → ℕ → ℕ → ℕ → ℕ → ℕ → List Bool
-      tests p e n a b c v k u j = ltb p i ∷ ltb e n ∷ eqb a u ∷ eqb b v ∷ eqb k (j + c) ∷ eqb (closedAt cl u) (suc p) ∷ []
+      -- f, b: the edge's ends; u, v: the vertices of parent and node
+      pub hang-leaves : {f u : ℕ} → f ≡ fromIn m ws e → u ≡ vertexIn ws t p → (f ≡ u → ⊥) → Hangs? false
+      unfolding hangsb
+      hang-leaves rf ru n = read-fails hang-words 2 (read-differ rf ru n)
+
+      pub hang-enters : {b v : ℕ} → b ≡ toIn m ws e → v ≡ vertexIn ws t i → (b ≡ v → ⊥) → Hangs? false
+      unfolding hangsb
+      hang-enters rb rv n = read-fails hang-words 3 (read-differ rb rv n)
+
+      -- j, k, x: the costs of parent, edge and node
+      module _ {j₀ j k₀ k x₀ x : ℕ} (rj₀ : j₀ ≡ costIn t p) (rj : j ≡ j₀) (rk₀ : k₀ ≡ edgeCostIn m ws e) (rk : k ≡ k₀) (rx₀ : x₀ ≡ costIn t i) (rx : x ≡ x₀) where
+        sum : j + k ≡ costIn t p + edgeCostIn m ws e
+        sum = ap₂ _+_ (rj ∙ rj₀) (rk ∙ rk₀)
+
+        pub hang-cost : (x ≡ j + k → ⊥) → Hangs? false
+        unfolding hangsb
+        hang-cost n = read-fails hang-words 4 (read-differ (rx ∙ rx₀) sum n)
+
+        -- a: where the closed words begin; z: the closed word of the edge's first end
+        pub hang-last : {f u b v a y z : ℕ} → f ≡ fromIn m ws e → u ≡ vertexIn ws t p → f ≡ u → b ≡ toIn m ws e → v ≡ vertexIn ws t i → b ≡ v → x ≡ j + k
+            → a ≡ closedWordsAt l → y ≡ f → z ≡ getD t (a + y) 0 → Hangs? (eqb z (p + 1))
+        unfolding hangsb
+        hang-last rf ru fu rb rv bv xs ra ry rz =
+            ap₂ eqb (rz ∙ closed-word m l t ra (ry ∙ fu ∙ ru) (edge-from (h .0 .can .held) oe (ry ∙ rf) .1)) (add-one p)
+            ∙ read-last hang-words 5 refl (lt-ltb p i op) (lt-ltb e l oe) (read-same rf ru fu) (read-same rb rv bv) (read-same (rx ∙ rx₀) sum xs)
+
+-- the place of the closed word that tells whether the parent closed its vertex
+module _ {m l i : ℕ} {ws t : List ℕ} (h : Counted m l ws t × (i < usedIn t)) {e : ℕ} (oe : e < l) {a f y : ℕ} (ra : a ≡ closedWordsAt l) (rf : f ≡ fromIn m ws e) (ry : y ≡ f) where
+  pub hang-place : (a + y < length t) × (a + y ≤ 20000)
+  hang-place = (closed-there (h .0 .can) oe ra rf ry, closed-small (h .0 .can) oe ra rf ry)
 
 -- the nodes below i pass, node 0 unasked
 pub record HangTo (m l : ℕ) (ws t : List ℕ) (i : ℕ) : Type 0 where
-  pub some : 0 < i
-  pub within : i ≤ getD t 1 0
-  pub passed : upto (λ k. eqb k 0 || hangsb (domainOf m l ws) (treeIn m l t .nodes) (treeIn m l t .closed) k) i ≡ true
+  some : 0 < i
+  passed : upto (λ k. eqb k 0 || hangsb (domainOf m l ws) (treeIn m l t .nodes) (treeIn m l t .closed) k) i ≡ true
 
 module _ (m l : ℕ) (ws t : List ℕ) where
   abbrev hangs : ℕ → Bool
   hangs i = hangsb (domainOf m l ws) (treeIn m l t .nodes) (treeIn m l t .closed) i
 
-  pub hang-none : Counted m l ws t → HangTo m l ws t 1
+  pub hang-none : HangTo m l ws t 1
   unfolding upto
-  hang-none h = record { some = omega arith; within = omega (arith, h .some-node); passed = refl }
+  hang-none = record { some = omega arith; passed = refl }
 
   -- n is read as the count, b as the test of node i
-  pub hang-more : {n i : ℕ} {b : Bool} → HangTo m l ws t i → n ≡ getD t 1 0 → i < n → b ≡ hangs i → not b ≡ false → HangTo m l ws t (i + 1)
-  hang-more {n} {i} {b} w e h r q =
-      record { some = omega arith; within = omega arith; passed = upto-passes _ i (w .passed) (true-or-right (eqb i 0) _ (sym r ∙ not-false b q)) }
+  module _ {n i : ℕ} (w : HangTo m l ws t i) (e : n ≡ usedIn t) where
+    asked : {b : Bool} → b ≡ hangs i → b ≡ (eqb i 0 || hangs i)
+    asked r = r ∙ ap (λ (a : Bool). a || hangs i) (sym (ne-eqb i 0 (omega (arith, w .some))))
 
-  pub hang-fails : {n i : ℕ} {b : Bool} → HangTo m l ws t i → n ≡ getD t 1 0 → i < n → b ≡ hangs i → not b ≡ true → false ≡ hangAllb (domainOf m l ws) (treeIn m l t)
-  hang-fails {n} {i} {b} w e h r q =
-      let f : (eqb i 0 || hangs i) ≡ false = ap (λ (a : Bool). a || hangs i) (ne-eqb i 0 (omega (arith, w .some))) ∙ sym r ∙ not-true b q in
-      sym (upto-fails _ (length (treeIn m l t .nodes)) i (omega (arith, tree-nodes m l t)) f)
+    pub hang-more : {b : Bool} → i < n → b ≡ hangs i → not b ≡ false → HangTo m l ws t (i + 1)
+    hang-more {b} h r q = record { some = omega arith; passed = one-more _ i b (w .passed) (asked r) q }
 
-  pub hang-all : {n i : ℕ} → HangTo m l ws t i → n ≡ getD t 1 0 → n ≤ i → true ≡ hangAllb (domainOf m l ws) (treeIn m l t)
-  hang-all {n} {i} w e h =
-      let k : i ≡ length (treeIn m l t .nodes) = omega (arith, tree-nodes m l t, w .within) in
-      sym (subst (λ (j : ℕ). upto (λ k. eqb k 0 || hangs k) j ≡ true) k (w .passed))
+    pub hang-fails : {b : Bool} → i < n → b ≡ hangs i → not b ≡ true → false ≡ hangAllb (domainOf m l ws) (treeIn m l t)
+    hang-fails {b} h r q = one-fails _ (length (treeIn m l t .nodes)) i b (omega (arith, tree-nodes m l t)) (asked r) q
+
+    pub hang-all : n ≤ i → true ≡ hangAllb (domainOf m l ws) (treeIn m l t)
+    hang-all h = all-passed _ (length (treeIn m l t .nodes)) i (w .passed) (omega (arith, tree-nodes m l t))
 
 -- ---- what is so if all pass
 
@@ -230,5 +263,5 @@ hung-at m l ws t h root hang =
     hangs : (i : ℕ) → i ≢ 0 → i < length (u .nodes) → Hangs d (u .nodes) (u .closed) i
     hangs = all-hang d (u .nodes) (u .closed) (length (u .nodes)) hang
 
-    start : getD t 0 0 < m
-    start = omega (arith, vertices h, ltb-true (getD t 0 0) (vertexCount (d .graph)) (tests .0))
+    start : startIn t < m
+    start = omega (arith, vertices h, ltb-true (startIn t) (vertexCount (d .graph)) (tests .0))

@@ -19,7 +19,7 @@ use Rattle.model.proofs.Bools.{and-true, true-and}
 use Rattle.model.proofs.Reversed.{accepted-domain, domain-twice, domain-counts}
 use Rattle.text.specs.Print.{printed}
 use Rattle.text.proofs.Printed.{prints}
-use Rattle.layout.specs.Layout.{initialAt, edgesAt, placesAt, numbersAt, slotsAt, needed}
+use Rattle.layout.specs.Layout.{initialAt, edgesAt, placesAt, numbersAt, slotsAt, needed, directionIn, edgesIn, slotsIn, treesIn, verticesIn, edgeAt}
 use Rattle.layout.specs.Words.{directionWord, firstPlace, openedWords}
 use Rattle.layout.specs.Read.{directionOf, graphIn, domainOf, readCache}
 use Rattle.layout.specs.Sound.{headerTests, graphTests, treesTests, soundWordsb}
@@ -109,10 +109,10 @@ module _ (m l : ℕ) (a b : List ℕ) (ha : Held m l a) (hb : Held m l b) (one :
   alike : (f : Domain → ℕ) (i : ℕ) → f (domainOf m l a) ≡ getD a i 0 → f (domainOf m l b) ≡ getD b i 0 → getD a i 0 ≡ getD b i 0
   alike f i p q = sym p ∙ ap f one ∙ q
 
-  alike-edge : (e k : ℕ) → e < l → k < 3 → getD a (edgesAt m + 3 * e + k) 0 ≡ getD b (edgesAt m + 3 * e + k) 0
-  alike-edge e zero h lt = rw add-zero (alike (λ d. from (d .graph) e) (edgesAt m + 3 * e) (from-word m l a e h) (from-word m l b e h))
-  alike-edge e (suc zero) h lt = alike (λ d. to (d .graph) e) (edgesAt m + 3 * e + 1) (to-word m l a e h) (to-word m l b e h)
-  alike-edge e (suc (suc zero)) h lt = alike (λ d. cost (d .graph) e) (edgesAt m + 3 * e + 2) (cost-word m l a e h) (cost-word m l b e h)
+  alike-edge : (e k : ℕ) → e < l → k < 3 → getD a (edgeAt m e + k) 0 ≡ getD b (edgeAt m e + k) 0
+  alike-edge e zero h lt = rw add-zero (alike (λ d. from (d .graph) e) (edgeAt m e) (from-word m l a e h) (from-word m l b e h))
+  alike-edge e (suc zero) h lt = alike (λ d. to (d .graph) e) (edgeAt m e + 1) (to-word m l a e h) (to-word m l b e h)
+  alike-edge e (suc (suc zero)) h lt = alike (λ d. cost (d .graph) e) (edgeAt m e + 2) (cost-word m l a e h) (cost-word m l b e h)
   alike-edge e (suc (suc (suc k))) h lt = absurd (omega arith)
 
   -- the word at place i of an area, by its place among all words
@@ -125,7 +125,7 @@ module _ (m l : ℕ) (a b : List ℕ) (ha : Held m l a) (hb : Held m l b) (one :
         placed j initialAt v (omega arith) (alike (λ d. getD (d .graph .initial) v 0) (initialAt + v) (initial-word m l a v 0 (omega arith) (omega (arith, ha .fits))) (initial-word m l b v 0 (omega arith) (omega (arith, hb .fits))))
     | no h ↦ elim (decLt j (placesAt m l)) [
       | yes k ↦ let e : ℕ = (j - edgesAt m) / 3 in
-          placed j (edgesAt m + 3 * e) (j - edgesAt m - 3 * e) (omega arith) (alike-edge e (j - edgesAt m - 3 * e) (omega arith) (omega arith))
+          placed j (edgeAt m e) (j - edgesAt m - 3 * e) (omega arith) (alike-edge e (j - edgesAt m - 3 * e) (omega arith) (omega arith))
       | no k ↦ elim (decLt j (numbersAt m l)) [
         | yes n ↦ let v : ℕ = j - placesAt m l in
             placed j (placesAt m l) v (omega arith) (alike (λ d. firstPlace d v) (placesAt m l + v) (sym (ha .place v (omega arith))) (sym (hb .place v (omega arith))))
@@ -139,18 +139,18 @@ module _ (m l : ℕ) (a b : List ℕ) (ha : Held m l a) (hb : Held m l b) (one :
 
 module _ (ws : List ℕ) where
   abbrev dir : Direction
-  dir = directionOf (getD ws 0 0)
+  dir = directionOf (directionIn ws)
 
   abbrev vertices : ℕ
-  vertices = getD ws 1 0
+  vertices = verticesIn ws
 
   abbrev edges : ℕ
-  edges = getD ws 2 0
+  edges = edgesIn ws
 
   abbrev slots : ℕ
-  slots = getD ws 3 0
+  slots = slotsIn ws
 
-  module _ (ok : Headed vertices edges slots (getD ws 4 0) ws) (held : Held vertices edges ws) where
+  module _ (ok : Headed vertices edges slots (treesIn ws) ws) (held : Held vertices edges ws) where
     -- the graph of the text
     abbrev textGraph : Graph
     textGraph = domain dir (graphIn vertices edges ws) .graph
@@ -173,11 +173,11 @@ module _ (ws : List ℕ) where
     left = written (openedWords dir textGraph slots) ws
 
     -- the opening is accepted
-    accepts : afterOpen Opened left ≡ openCache ws (printed textGraph) (getD ws 0 0) slots
+    accepts : afterOpen Opened left ≡ openCache ws (printed textGraph) (directionIn ws) slots
     unfolding openCache
     accepts =
         rw (
-          le-ltb 1 (getD ws 0 0) (ok .direction),
+          le-ltb 1 (directionIn ws) (ok .direction),
           le-leb 1 slots (ok .some-slot),
           le-leb slots 64 (ok .slots),
           prints .reads textGraph accepted,
@@ -192,7 +192,7 @@ module _ (ws : List ℕ) where
 
     header-same : (j : ℕ) → j < 5 → j ≢ 4 → getD left j 0 ≡ getD ws j 0
     unfolding openedWords
-    header-same zero h n = word-of (getD ws 0 0) (ok .direction)
+    header-same zero h n = word-of (directionIn ws) (ok .direction)
     header-same (suc zero) h n = counts .0
     header-same (suc (suc zero)) h n = counts .1
     header-same (suc (suc (suc zero))) h n = refl
@@ -202,7 +202,7 @@ module _ (ws : List ℕ) where
     writes = record {
       text = printed textGraph;
       left = left;
-      opens = demand-1 ws (printed textGraph) (getD ws 0 0) slots Opened left accepts .opened refl;
+      opens = demand-1 ws (printed textGraph) (directionIn ws) slots Opened left accepts .opened refl;
       same = λ j h n. elim (decLt j 5) [
         | yes k ↦ header-same j k n
         | no k ↦ graph-words vertices edges left ws (held-as dir textGraph slots rest accepted vertices edges counts) held same-domain j (omega arith) h
@@ -212,7 +212,7 @@ module _ (ws : List ℕ) where
 
   -- and back
   module _ (such : SuchAsOpening ws) where
-    abbrev opening : Opens ws (such .text) (getD ws 0 0) slots (such .left)
+    abbrev opening : Opens ws (such .text) (directionIn ws) slots (such .left)
     opening = such .opens
 
     abbrev written-graph : Graph
@@ -231,7 +231,7 @@ module _ (ws : List ℕ) where
     still-held : Held vertices edges ws
     still-held = held-same vertices edges (such .left) ws (sym (opening .same-length)) (λ j n h. sym (such .same j h n)) left-held
 
-    header : Headed vertices edges slots (getD ws 4 0) ws
+    header : Headed vertices edges slots (treesIn ws) ws
     header =
         let fits : needed vertices edges slots ≤ length ws = rw (← sizes .0, ← sizes .1) (opening .fits) in
         record {

@@ -7,7 +7,6 @@ use mathlib.Core.List.{List, [], _∷_, _++_}
 use Prim.Native.Nat.{ℕ, zero, suc, _+_, _-_, _/_, _<_, _≤_, min}
 use native.Mathlib.Omega.{arith}
 use native.Mathlib.Decide.{ℕ-discrete}
-use native.Mathlib.Nat.{add-zero}
 use native.Mathlib.Numerals.{add-one}
 use lib.Dec.{eqb, ltb}
 use lib.ListN.{length, getD, set, drop, replicate, length-set, length-drop, length-replicate, getD-replicate}
@@ -17,14 +16,14 @@ use Rattle.model.specs.Lists.{mem, allb, allBelow, upto}
 use Rattle.model.specs.Tree.{precedes}
 use Rattle.model.specs.Sound.{distinctb}
 use Rattle.model.proofs.Bools.{true-or-left, all-true, true-given, upto-same}
-use Rattle.layout.specs.Layout.{nodesAt, nodeAt, queueAt, part}
+use Rattle.layout.specs.Layout.{nodeAt, queueAt, part, queuedIn, usedIn, vertexIn}
 use Rattle.layout.specs.Read.{nodesIn}
 use Rattle.layout.specs.Sound.{heapb, queueTests}
 use Rattle.layout.proofs.Places.{part-at, part-length}
 use Rattle.queue.specs.Queue.{evaluationIn, key}
 use Rattle.tree.proofs.Parts.{below-at}
 use Rattle.tree.proofs.Form.{precedes-key}
-use Rattle.sound.specs.Check.{QueueWords, lesserIf, leastCost, LeastCosts, QueueTurn, QueueIs}
+use Rattle.sound.specs.Check.{noCost, QueueWords, lesserIf, leastCost, LeastCosts, QueueTurn, QueueIs}
 use Rattle.sound.proofs.Tests.{all-fails}
 use Rattle.sound.proofs.Marks.{distinct-snoc, marked-none, marked-more}
 
@@ -40,15 +39,15 @@ below-snoc u x (y ∷ ys) = ap (λ (b : Bool). ltb y u && b) (below-snoc u x ys)
 
 -- heap order of n words, and word by word
 abbrev heapTo : ℕ → List ℕ → ℕ → Bool
-heapTo l t n = heapb (nodesIn (getD t 1 0) (drop nodesAt t)) (part (queueAt l) n t)
+heapTo l t n = heapb (nodesIn (usedIn t) t) (part (queueAt l) n t)
 
 abbrev pub orderb : ℕ → List ℕ → ℕ → Bool
-orderb l t i = eqb i 0 || not (precedes (nodesIn (getD t 1 0) (drop nodesAt t)) (getD t (queueAt l + i) 0) (getD t (queueAt l + (i - 1) / 2) 0))
+orderb l t i = eqb i 0 || not (precedes (nodesIn (usedIn t) t) (getD t (queueAt l + i) 0) (getD t (queueAt l + (i - 1) / 2) 0))
 
 heap-words : (l : ℕ) (t : List ℕ) (n : ℕ) → queueAt l + n ≤ length t → heapTo l t n ≡ upto (orderb l t) n
 heap-words l t n fits =
     rw (part-length (queueAt l) n t fits) (upto-same _ (orderb l t) n (λ i h.
-    ap₂ (λ (a b : ℕ). eqb i 0 || not (precedes (nodesIn (getD t 1 0) (drop nodesAt t)) a b)) (part-at (queueAt l) n t i h) (part-at (queueAt l) n t ((i - 1) / 2) (omega arith))))
+    ap₂ (λ (a b : ℕ). eqb i 0 || not (precedes (nodesIn (usedIn t) t) a b)) (part-at (queueAt l) n t i h) (part-at (queueAt l) n t ((i - 1) / 2) (omega arith))))
 
 heap-more : (l : ℕ) (t : List ℕ) (i : ℕ) → queueAt l + i < length t → heapTo l t (i + 1) ≡ (heapTo l t i && orderb l t i)
 unfolding upto
@@ -66,31 +65,31 @@ lesser-swap true false x y z = refl
 lesser-swap false true x y z = refl
 lesser-swap false false x y z = refl
 
-least-snoc : (t : List ℕ) (k v : ℕ) (xs : List ℕ)
-    → leastCost t (xs ++ (k ∷ [])) v ≡ lesserIf (eqb (getD t (nodeAt k) 0) v) (evaluationIn t k) (leastCost t xs v)
+least-snoc : (ws t : List ℕ) (k v : ℕ) (xs : List ℕ)
+    → leastCost ws t (xs ++ (k ∷ [])) v ≡ lesserIf (eqb (vertexIn ws t k) v) (evaluationIn t k) (leastCost ws t xs v)
 unfolding leastCost
-least-snoc t k v [] = refl
-least-snoc t k v (x ∷ xs) =
-    ap (lesserIf (eqb (getD t (nodeAt x) 0) v) (evaluationIn t x)) (least-snoc t k v xs)
-    ∙ lesser-swap (eqb (getD t (nodeAt x) 0) v) (eqb (getD t (nodeAt k) 0) v) (evaluationIn t x) (evaluationIn t k) (leastCost t xs v)
+least-snoc ws t k v [] = refl
+least-snoc ws t k v (x ∷ xs) =
+    ap (lesserIf (eqb (vertexIn ws t x) v) (evaluationIn t x)) (least-snoc ws t k v xs)
+    ∙ lesser-swap (eqb (vertexIn ws t x) v) (eqb (vertexIn ws t k) v) (evaluationIn t x) (evaluationIn t k) (leastCost ws t xs v)
 
-least-none : (t : List ℕ) → LeastCosts (replicate 1024 4294967295) t []
+least-none : (ws t : List ℕ) → LeastCosts (replicate 1024 noCost) ws t []
 unfolding leastCost
-least-none t = record { len = length-replicate {A = ℕ} 1024 4294967295; least = λ v h. getD-replicate {A = ℕ} 1024 v 4294967295 0 h }
+least-none ws t = record { len = length-replicate {A = ℕ} 1024 noCost; least = λ v h. getD-replicate {A = ℕ} 1024 v noCost 0 h }
 
 -- the table with node k of vertex v and cost c, which is below the vertex's least cost or is not
-module _ {costs t xs : List ℕ} (s : LeastCosts costs t xs) (k : ℕ) {v c : ℕ} (vertex : v ≡ getD t (nodeAt k) 0) (cost : c ≡ evaluationIn t k) (h : v < 1024) where
-  same : leastCost t (xs ++ (k ∷ [])) v ≡ min c (getD costs v 0)
+module _ {costs ws t xs : List ℕ} (s : LeastCosts costs ws t xs) (k : ℕ) {v c : ℕ} (vertex : v ≡ vertexIn ws t k) (cost : c ≡ evaluationIn t k) (h : v < 1024) where
+  same : leastCost ws t (xs ++ (k ∷ [])) v ≡ min c (getD costs v 0)
   same =
-      least-snoc t k v xs ∙ ap (λ (b : Bool). lesserIf b (evaluationIn t k) (leastCost t xs v)) (eq-eqb _ v (sym vertex))
+      least-snoc ws t k v xs ∙ ap (λ (b : Bool). lesserIf b (evaluationIn t k) (leastCost ws t xs v)) (eq-eqb _ v (sym vertex))
       ∙ ap₂ min (sym cost) (sym (s .least v h))
 
-  other : (w : ℕ) → w < 1024 → w ≢ v → getD costs w 0 ≡ leastCost t (xs ++ (k ∷ [])) w
+  other : (w : ℕ) → w < 1024 → w ≢ v → getD costs w 0 ≡ leastCost ws t (xs ++ (k ∷ [])) w
   other w g ne =
       s .least w g
-      ∙ sym (least-snoc t k w xs ∙ ap (λ (b : Bool). lesserIf b (evaluationIn t k) (leastCost t xs w)) (ne-eqb _ w (omega (arith, vertex))))
+      ∙ sym (least-snoc ws t k w xs ∙ ap (λ (b : Bool). lesserIf b (evaluationIn t k) (leastCost ws t xs w)) (ne-eqb _ w (omega (arith, vertex))))
 
-  least-less : c < getD costs v 0 → LeastCosts (set costs v c) t (xs ++ (k ∷ []))
+  least-less : c < getD costs v 0 → LeastCosts (set costs v c) ws t (xs ++ (k ∷ []))
   least-less less = record {
     len = length-set costs v c ∙ s .len;
     least = λ w g. elim (ℕ-discrete w v) [
@@ -99,14 +98,14 @@ module _ {costs t xs : List ℕ} (s : LeastCosts costs t xs) (k : ℕ) {v c : �
     ];
   }
 
-  least-kept : getD costs v 0 ≤ c → LeastCosts costs t (xs ++ (k ∷ []))
+  least-kept : getD costs v 0 ≤ c → LeastCosts costs ws t (xs ++ (k ∷ []))
   least-kept more = record { len = s .len; least = λ w g. elim (ℕ-discrete w v) [ yes e ↦ rw e (omega (arith, same)) | no ne ↦ other w g ne ] }
 
 -- ---- the tests of word i, and of those before it
 
 abbrev wordTests : ℕ → List ℕ → ℕ → List Bool
 wordTests l t i =
-    ltb (getD t (queueAt l + i) 0) (getD t 1 0)
+    ltb (getD t (queueAt l + i) 0) (usedIn t)
     ∷ not (mem (getD t (queueAt l + i) 0) (part (queueAt l) i t))
     ∷ orderb l t i
     ∷ []
@@ -126,9 +125,9 @@ tests-more l i t h =
     let x : ℕ = getD t (queueAt l + i) 0 in
     let xs : List ℕ = part (queueAt l) i t in
     let more : part (queueAt l) (i + 1) t ≡ xs ++ (x ∷ []) = part-more (queueAt l) i t h in
-    let below : allBelow (getD t 1 0) (part (queueAt l) (i + 1) t) ≡ (allBelow (getD t 1 0) xs && ltb x (getD t 1 0)) = ap (allBelow (getD t 1 0)) more ∙ below-snoc (getD t 1 0) x xs in
+    let below : allBelow (usedIn t) (part (queueAt l) (i + 1) t) ≡ (allBelow (usedIn t) xs && ltb x (usedIn t)) = ap (allBelow (usedIn t)) more ∙ below-snoc (usedIn t) x xs in
     let new : distinctb (part (queueAt l) (i + 1) t) ≡ (distinctb xs && not (mem x xs)) = ap distinctb more ∙ distinct-snoc x xs in
-    rw (below, new, heap-more l t i h) (both (allBelow (getD t 1 0) xs) (distinctb xs) (heapTo l t i) (ltb x (getD t 1 0)) (not (mem x xs)) (orderb l t i))
+    rw (below, new, heap-more l t i h) (both (allBelow (usedIn t) xs) (distinctb xs) (heapTo l t i) (ltb x (usedIn t)) (not (mem x xs)) (orderb l t i))
 
 -- where the tests of m words fail, those of more words do
 fail-on : (l m : ℕ) (t : List ℕ) (n : ℕ) → m ≤ n → queueAt l + n ≤ length t → allb (queueTests l t m) ≡ false → allb (queueTests l t n) ≡ false
@@ -139,7 +138,7 @@ fail-on l m t (suc n) h f e = elim (ℕ-discrete m (suc n)) [
 ]
 
 -- the words before place i passed; the queue stands from q on, and its word there is n
-module _ {l i q n : ℕ} {t : List ℕ} {marks : List Bool} {costs : List ℕ} (turn : QueueTurn l t i marks costs) (queue : q ≡ queueAt l) (word : n ≡ getD t (q + i) 0) where
+module _ {l i q n : ℕ} {ws t : List ℕ} {marks : List Bool} {costs : List ℕ} (turn : QueueTurn l ws t i marks costs) (queue : q ≡ queueAt l) (word : n ≡ getD t (q + i) 0) where
   fits : queueAt l + i < length t
   fits = omega (arith, turn .words .areas .fits, turn .words .areas .queued, turn .place)
 
@@ -149,28 +148,28 @@ module _ {l i q n : ℕ} {t : List ℕ} {marks : List Bool} {costs : List ℕ} (
   tests : allb (queueTests l t (i + 1)) ≡ allb (wordTests l t i)
   tests = tests-more l i t fits ∙ ap (λ (b : Bool). b && allb (wordTests l t i)) (turn .passed)
 
-  fails : (k : ℕ) {ms : List Bool} {cs : List ℕ} → getD (wordTests l t i) k true ≡ false → QueueIs l t (i + 1) false ms cs
+  fails : (k : ℕ) {ms : List Bool} {cs : List ℕ} → getD (wordTests l t i) k true ≡ false → QueueIs l ws t (i + 1) false ms cs
   fails k e = record { answer = sym (tests ∙ all-fails (wordTests l t i) k e); tables = λ z. absurd (true≢false (sym z)) }
 
   -- u nodes are used, and n is one of them or is not
-  module _ {u : ℕ} (used : u ≡ getD t 1 0) where
-    pub no-node : {ms : List Bool} {cs : List ℕ} → u ≤ n → QueueIs l t (i + 1) false ms cs
-    no-node h = fails 0 (le-ltb (getD t (queueAt l + i) 0) (getD t 1 0) (omega (arith, word-is, used)))
+  module _ {u : ℕ} (used : u ≡ usedIn t) where
+    pub no-node : {ms : List Bool} {cs : List ℕ} → u ≤ n → QueueIs l ws t (i + 1) false ms cs
+    no-node h = fails 0 (le-ltb (getD t (queueAt l + i) 0) (usedIn t) (omega (arith, word-is, used)))
 
     module _ (h : n < u) where
       marked : mem (getD t (queueAt l + i) 0) (part (queueAt l) i t) ≡ getD marks n false
       marked =
           sym (turn .tables .marked .mark n (omega (arith, turn .words .areas .used, turn .words .areas .edges)) ∙ ap (λ (x : ℕ). mem x (part (queueAt l) i t)) (sym word-is))
 
-      pub twice : {ms : List Bool} {cs : List ℕ} → getD marks n false ≡ true → QueueIs l t (i + 1) false ms cs
+      pub twice : {ms : List Bool} {cs : List ℕ} → getD marks n false ≡ true → QueueIs l ws t (i + 1) false ms cs
       twice e = fails 1 (ap not (marked ∙ e))
 
       -- the parent's word
       module _ (pos : 0 < i) where
-        parent : getD t (q + (i - 1) / 2) 0 < getD t 1 0
+        parent : getD t (q + (i - 1) / 2) 0 < usedIn t
         parent =
             let r = all-true (queueTests l t i) (turn .passed) in
-            rw queue (below-at t (queueAt l) i (getD t 1 0) (omega (arith, fits)) (r .0) ((i - 1) / 2) (omega arith))
+            rw queue (below-at t (queueAt l) i (usedIn t) (omega (arith, fits)) (r .0) ((i - 1) / 2) (omega arith))
 
         pub parent-node : nodeAt (getD t (q + (i - 1) / 2) 0) + 4 ≤ length t
         parent-node = omega (arith, parent, turn .words .areas .used, turn .words .areas .fits)
@@ -182,19 +181,16 @@ module _ {l i q n : ℕ} {t : List ℕ} {marks : List Bool} {costs : List ℕ} (
             ∙ sym (rw queue at e)))
 
         pub before-parent : {r : Bool} {ms : List Bool} {cs : List ℕ} → r ≡ ltb (key t (getD t (q + i) 0)) (key t (getD t (q + (i - 1) / 2) 0)) → r ≡ true
-            → QueueIs l t (i + 1) false ms cs
+            → QueueIs l ws t (i + 1) false ms cs
         before-parent e z = fails 2 (order e ∙ ap not z)
 
         pub after-parent : {r : Bool} → r ≡ ltb (key t (getD t (q + i) 0)) (key t (getD t (q + (i - 1) / 2) 0)) → r ≡ false → orderb l t i ≡ true
         after-parent e z = order e ∙ ap not z
 
       -- vertex and cost of the node
-      module _ {v w : ℕ} (wide : v ≡ w) (vertex : w ≡ getD t (nodeAt n + 0) 0) where
-        vertex-is : v ≡ getD t (nodeAt n) 0
-        vertex-is = wide ∙ vertex ∙ ap (λ (a : ℕ). getD t a 0) (add-zero (nodeAt n))
-
+      module _ {v w : ℕ} (wide : v ≡ w) (vertex : w ≡ vertexIn ws t n) where
         small : v < 1024
-        small = omega (arith, vertex-is, turn .words .vertex n (omega arith))
+        small = omega (arith, turn .words .vertex n (omega arith))
 
         pub has-cost : v < length costs
         has-cost = omega (arith, small, turn .tables .least .len)
@@ -203,21 +199,21 @@ module _ {l i q n : ℕ} {t : List ℕ} {marks : List Bool} {costs : List ℕ} (
           cost-is : c ≡ evaluationIn t n
           cost-is = cost ∙ ap (evaluationIn t) (sym word)
 
-          passes : {cs : List ℕ} → LeastCosts cs t (part (queueAt l) i t ++ (n ∷ [])) → QueueIs l t (i + 1) true (set marks n true) cs
+          passes : {cs : List ℕ} → LeastCosts cs ws t (part (queueAt l) i t ++ (n ∷ [])) → QueueIs l ws t (i + 1) true (set marks n true) cs
           passes s =
               let more : part (queueAt l) (i + 1) t ≡ part (queueAt l) i t ++ (n ∷ []) =
               part-more (queueAt l) i t fits ∙ ap (λ (x : ℕ). part (queueAt l) i t ++ (x ∷ [])) word-is in
               record {
                 answer = sym (tests
-                    ∙ true-given (wordTests l t i) (lt-ltb (getD t (queueAt l + i) 0) (getD t 1 0) (omega (arith, word-is, used))) (ap not (marked ∙ new)) ordered);
+                    ∙ true-given (wordTests l t i) (lt-ltb (getD t (queueAt l + i) 0) (usedIn t) (omega (arith, word-is, used))) (ap not (marked ∙ new)) ordered);
                 tables = λ z. record { marked = rw more (marked-more (turn .tables .marked) (omega (arith, turn .words .areas .used, turn .words .areas .edges))); least = rw more s };
               }
 
-          pub lower : c < getD costs v 0 → QueueIs l t (i + 1) true (set marks n true) (set costs v c)
-          lower less = passes (least-less (turn .tables .least) n vertex-is cost-is small less)
+          pub lower : c < getD costs v 0 → QueueIs l ws t (i + 1) true (set marks n true) (set costs v c)
+          lower less = passes (least-less (turn .tables .least) n (wide ∙ vertex) cost-is small less)
 
-          pub not-lower : getD costs v 0 ≤ c → QueueIs l t (i + 1) true (set marks n true) costs
-          not-lower more = passes (least-kept (turn .tables .least) n vertex-is cost-is small more)
+          pub not-lower : getD costs v 0 ≤ c → QueueIs l ws t (i + 1) true (set marks n true) costs
+          not-lower more = passes (least-kept (turn .tables .least) n (wide ∙ vertex) cost-is small more)
 
 -- the first word has no parent
 pub first-word : (l i : ℕ) (t : List ℕ) → i ≤ 0 → orderb l t i ≡ true
@@ -225,23 +221,23 @@ first-word l i t h = true-or-left (eqb i 0) _ (eq-eqb i 0 (omega arith))
 
 -- ---- all words in turn: i of them passed
 
-pub queue-none : (l : ℕ) (t : List ℕ) {marks : List Bool} {costs : List ℕ} → marks ≡ replicate 2049 false → costs ≡ replicate 1024 4294967295 → QueueIs l t 0 true marks costs
+pub queue-none : (l : ℕ) (ws t : List ℕ) {marks : List Bool} {costs : List ℕ} → marks ≡ replicate 2049 false → costs ≡ replicate 1024 noCost → QueueIs l ws t 0 true marks costs
 unfolding upto distinctb
-queue-none l t m c = rw (m, c) (record { answer = refl; tables = λ z. record { marked = marked-none 2049; least = least-none t } })
+queue-none l ws t m c = rw (m, c) (record { answer = refl; tables = λ z. record { marked = marked-none 2049; least = least-none ws t } })
 
-module _ {l i n : ℕ} {t : List ℕ} (words : QueueWords l t) (queued : n ≡ getD t 2 0) (h : i < n) where
-  pub queue-turn : {marks : List Bool} {costs : List ℕ} → QueueIs l t i true marks costs → QueueTurn l t i marks costs
+module _ {l i n : ℕ} {ws t : List ℕ} (words : QueueWords l ws t) (queued : n ≡ queuedIn t) (h : i < n) where
+  pub queue-turn : {marks : List Bool} {costs : List ℕ} → QueueIs l ws t i true marks costs → QueueTurn l ws t i marks costs
   queue-turn q = record { words = words; place = omega arith; passed = sym (q .answer); tables = q .tables refl }
 
-  pub queue-fails : {r : Bool} {ms ks : List Bool} {cs ds : List ℕ} → QueueIs l t (i + 1) r ms cs → not r ≡ true → QueueIs l t (getD t 2 0) false ks ds
+  pub queue-fails : {r : Bool} {ms ks : List Bool} {cs ds : List ℕ} → QueueIs l ws t (i + 1) r ms cs → not r ≡ true → QueueIs l ws t (queuedIn t) false ks ds
   queue-fails {r} q e = record {
-    answer = sym (fail-on l (i + 1) t (getD t 2 0) (omega arith) (omega (arith, words .areas .queued, words .areas .fits)) (sym (q .answer) ∙ not-true r e));
+    answer = sym (fail-on l (i + 1) t (queuedIn t) (omega arith) (omega (arith, words .areas .queued, words .areas .fits)) (sym (q .answer) ∙ not-true r e));
     tables = λ z. absurd (true≢false (sym z));
   }
 
-pub queue-passes : {l n : ℕ} {t : List ℕ} {r : Bool} {marks : List Bool} {costs : List ℕ} → QueueIs l t n r marks costs → not r ≡ false → QueueIs l t n true marks costs
+pub queue-passes : {l n : ℕ} {ws t : List ℕ} {r : Bool} {marks : List Bool} {costs : List ℕ} → QueueIs l ws t n r marks costs → not r ≡ false → QueueIs l ws t n true marks costs
 queue-passes {r = r} q e = rw (not-false r e) at q
 
-pub queue-all : {l i n : ℕ} {t : List ℕ} {marks : List Bool} {costs : List ℕ} → i ≤ n → n ≤ i → n ≡ getD t 2 0 → QueueIs l t i true marks costs
-    → QueueIs l t (getD t 2 0) true marks costs
-queue-all {i = i} {t = t} h k queued q = let e : i ≡ getD t 2 0 = omega arith in rw e at q
+pub queue-all : {l i n : ℕ} {ws t : List ℕ} {marks : List Bool} {costs : List ℕ} → i ≤ n → n ≤ i → n ≡ queuedIn t → QueueIs l ws t i true marks costs
+    → QueueIs l ws t (queuedIn t) true marks costs
+queue-all {i = i} {t = t} h k queued q = let e : i ≡ queuedIn t = omega arith in rw e at q

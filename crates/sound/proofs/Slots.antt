@@ -10,10 +10,10 @@ use Rattle.model.specs.Lists.{numbers}
 use Rattle.model.specs.Tree.{Tree}
 use Rattle.model.specs.Sound.{noTree, tree, starts}
 use Rattle.model.proofs.Lists.{up-length, map-up-at}
-use Rattle.layout.specs.Layout.{treeWords, slotAt}
-use Rattle.layout.specs.Read.{treeIn, treesIn}
-use Rattle.layout.specs.Sound.{slotWords}
+use Rattle.layout.specs.Layout.{treeWords, slotAt, startIn}
+use Rattle.layout.specs.Read.{treeIn, readTrees}
 use Rattle.layout.proofs.Places.{part-length}
+use Rattle.layout.specs.Slots.{slotWords}
 
 pub slot-order : (m l : ℕ) {i j : ℕ} → i ≤ j → slotAt m l i ≤ slotAt m l j
 slot-order m l h = omega (arith, mul-le-mul-right (treeWords m l) h)
@@ -27,15 +27,15 @@ module _ (m l : ℕ) (ws : List ℕ) {i n : ℕ} (h : i < n) where
   slot-length fits = part-length (slotAt m l i) (treeWords m l) ws (omega (arith, slot-before m l h))
 
   -- tree i of n, and the vertex at which it starts
-  pub tree-in-at : tree (treesIn m l n ws) i ≡ treeIn m l (slotWords m l i ws)
+  pub tree-in-at : tree (readTrees m l n ws) i ≡ treeIn m l (slotWords m l i ws)
   tree-in-at = map-up-at (λ j. treeIn m l (slotWords m l j ws)) noTree n 0 i h ∙ ap (λ (j : ℕ). treeIn m l (slotWords m l j ws)) (omega arith)
 
-  pub start-in-at : getD (starts (treesIn m l n ws)) i 0 ≡ getD (slotWords m l i ws) 0 0
+  pub start-in-at : getD (starts (readTrees m l n ws)) i 0 ≡ startIn (slotWords m l i ws)
   unfolding treeIn
-  start-in-at = List·getD-map (λ (t : Tree). t .start) (treesIn m l n ws) i noTree ∙ ap (λ (t : Tree). t .start) tree-in-at
+  start-in-at = List·getD-map (λ (t : Tree). t .start) (readTrees m l n ws) i noTree ∙ ap (λ (t : Tree). t .start) tree-in-at
 
-pub trees-in-length : (m l n : ℕ) (ws : List ℕ) → length (treesIn m l n ws) ≡ n
+pub trees-in-length : (m l n : ℕ) (ws : List ℕ) → length (readTrees m l n ws) ≡ n
 trees-in-length m l n ws = length-map (numbers n) _ ∙ up-length n 0
 
-pub starts-in-length : (m l n : ℕ) (ws : List ℕ) → length (starts (treesIn m l n ws)) ≡ n
-starts-in-length m l n ws = length-map (treesIn m l n ws) _ ∙ trees-in-length m l n ws
+pub starts-in-length : (m l n : ℕ) (ws : List ℕ) → length (starts (readTrees m l n ws)) ≡ n
+starts-in-length m l n ws = length-map (readTrees m l n ws) _ ∙ trees-in-length m l n ws

@@ -6,13 +6,13 @@ use mathlib.Core.List.{List}
 use Prim.Native.Nat.{ℕ, _+_, _<_, _≤_}
 use native.Mathlib.Omega.{arith}
 use borrow.Author.Tests.{not-true, not-false, le-leb, lt-leb}
-use lib.ListN.{length, getD}
+use lib.ListN.{length}
 use Rattle.model.specs.Lists.{allb, upto}
 use Rattle.model.specs.Graph.{Domain, edgeCount, edgesInUse}
 use Rattle.model.specs.Tree.{Tree}
-use Rattle.model.specs.Sound.{closedEdges, closerb, begunb, onwardAllb}
+use Rattle.model.specs.Sound.{closedEdges, closerb, begunb, onwardb}
 use Rattle.model.proofs.Lists.{up-length, those-length}
-use Rattle.layout.specs.Layout.{closedWordsAt}
+use Rattle.layout.specs.Layout.{closedWordsAt, queuedIn, usedIn}
 use Rattle.layout.specs.Read.{treeIn, domainOf}
 use Rattle.layout.proofs.Edges.{edge-count-in}
 use Rattle.layout.proofs.Trees.{tree-nodes}
@@ -21,6 +21,7 @@ use Rattle.tree.specs.Tree.{treeOf}
 use Rattle.tree.proofs.Same.{tree-of}
 use Rattle.sound.specs.Check.{Areas, Counted, Hung, QueueWords, QueueIs, Waits, RootMarked, LeadsOn, tablesTests}
 use Rattle.sound.proofs.Tests.{all-fails, read-last}
+use Rattle.sound.proofs.Edges.{all-edges}
 
 pub areas : {m l : ℕ} {ws t : List ℕ} → Counted m l ws t → Areas l t
 areas h = record { edges = h .can .held .sized .edges; fits = omega (arith, h .can .len); used = h .used; queued = h .queued }
@@ -38,7 +39,7 @@ module _ {m l : ℕ} {ws t : List ℕ} (h : Hung m l ws t) where
   same : treeOf l t ≡ u
   same = tree-of m l t (h .counted .can .len)
 
-  pub queue-words : QueueWords l t
+  pub queue-words : QueueWords l ws t
   queue-words = record {
     areas = areas (h .counted);
     vertex = λ k o. omega (arith, h .vertex k o, h .counted .can .held .sized .vertices);
@@ -48,7 +49,7 @@ module _ {m l : ℕ} {ws t : List ℕ} (h : Hung m l ws t) where
   closed-fit = omega (arith, h .counted .can .len)
 
   -- r, s, n and b are the answers: for queue words, closed words, the edges that leave closed vertices, the root
-  pub bad-queue : {r : Bool} {marks : List Bool} {costs : List ℕ} → QueueIs l t (getD t 2 0) r marks costs → not r ≡ true → false ≡ allb tests
+  pub bad-queue : {r : Bool} {marks : List Bool} {costs : List ℕ} → QueueIs l ws t (queuedIn t) r marks costs → not r ≡ true → false ≡ allb tests
   bad-queue {r} q e = sym (all-fails tests 0 (sym (q .answer) ∙ not-true r e))
 
   module _ {s : Bool} (answer : s ≡ upto (closerb (treeOf l t)) m) where
@@ -65,7 +66,7 @@ module _ {m l : ℕ} {ws t : List ℕ} (h : Hung m l ws t) where
         let fewer : length (closedEdges (d .graph) (u .closed)) ≤ length (edgesInUse (d .graph)) = those-length _ (edgesInUse (d .graph)) in
         omega (arith, answer, up-length (edgeCount (d .graph)) 0, edge-count-in m l ws, h .counted .can .held .sized .edges)
 
-    pub bad-nodes : {k : ℕ} → k ≡ getD t 1 0 → 1 + n < k → false ≡ allb tests
+    pub bad-nodes : {k : ℕ} → k ≡ usedIn t → 1 + n < k → false ≡ allb tests
     bad-nodes ek e = sym (all-fails tests 2 (lt-leb (length (u .nodes)) _ (omega (arith, answer, tree-nodes m l t))))
 
   module _ {b : Bool} (answer : b ≡ begunb (treeOf l t)) where
@@ -76,8 +77,8 @@ module _ {m l : ℕ} {ws t : List ℕ} (h : Hung m l ws t) where
     bad-root e = sym (all-fails tests 3 (sym begun ∙ not-true b e))
 
   -- the queue words passed
-  module _ {r : Bool} {marks : List Bool} {costs : List ℕ} (q : QueueIs l t (getD t 2 0) r marks costs) (yes : not r ≡ false) where
-    passed : allb (queueTests l t (getD t 2 0)) ≡ true
+  module _ {r : Bool} {marks : List Bool} {costs : List ℕ} (q : QueueIs l ws t (queuedIn t) r marks costs) (yes : not r ≡ false) where
+    passed : allb (queueTests l t (queuedIn t)) ≡ true
     passed = sym (q .answer) ∙ not-false r yes
 
     pub waits : Waits l t
@@ -95,10 +96,11 @@ module _ {m l : ℕ} {ws t : List ℕ} (h : Hung m l ws t) where
       leads-on = record { hung = h; queue = passed; closers = sym (closers c) ∙ not-false s closed; least = q .tables (not-false r yes) .least }
 
       -- the last answer, a, where all before it passed
-      pub tables-last : {n k : ℕ} {a b : Bool} → n ≡ length (closedEdges (d .graph) (u .closed)) → k ≡ getD t 1 0 → k ≤ 1 + n
-          → b ≡ begunb (treeOf l t) → not b ≡ false → a ≡ onwardAllb d u → a ≡ allb tests
+      pub tables-last : {n k : ℕ} {a b : Bool} → n ≡ length (closedEdges (d .graph) (u .closed)) → k ≡ usedIn t → k ≤ 1 + n
+          → b ≡ begunb (treeOf l t) → not b ≡ false → a ≡ upto (onwardb d u) l → a ≡ allb tests
       tables-last {b = b} en ek few eb begins ea =
           ea
+          ∙ sym (all-edges m l ws (onwardb d u))
           ∙ read-last {cs = tests} refl 4 refl
           passed
           (leads-on .closers)

@@ -1,13 +1,13 @@
 -- Tests one after the other, as a loop makes them: one that fails, one more that passes, the last one; and tests of words as they are read.
 -- Assumes nothing.
 use mathlib.Core.Path.{_≡_, refl, sym, ap, _∙_}
-use mathlib.Core.Bool.{Bool, true, false, _&&_, and-true}
+use mathlib.Core.Bool.{Bool, true, false, not, _&&_, and-true}
 use mathlib.Core.List.{List, [], _∷_}
 use Prim.Native.Nat.{ℕ, zero, suc, _+_, _<_, _≤_}
 use native.Mathlib.Decide.{ℕ-discrete}
 use native.Mathlib.Numerals.{add-one}
 use native.Mathlib.Omega.{arith}
-use borrow.Author.Tests.{lt-ltb, eq-eqb, ne-eqb}
+use borrow.Author.Tests.{not-true, not-false, lt-ltb, eq-eqb, ne-eqb}
 use lib.Dec.{eqb, ltb}
 use lib.ListN.{length, getD, take}
 use Rattle.model.specs.Lists.{allb, upto}
@@ -34,13 +34,21 @@ upto-fails p (suc n) i h e = go (upto-fails p n i) (ℕ-discrete i n)
     go ih (yes q) = ap (λ (b : Bool). b && upto p n) (ap p (sym q) ∙ e)
     go ih (no q) = and-false (p n) (upto p n) (ih (omega arith) e)
 
-pub upto-passes : (p : ℕ → Bool) (i : ℕ) → upto p i ≡ true → p i ≡ true → upto p (i + 1) ≡ true
-unfolding upto
-upto-passes p i e q = rw add-one (true-and (p i) (upto p i) q e)
+-- a loop over the numbers below n that says no at the first that fails, where b is what it says of i: the numbers below i passed
+module _ (p : ℕ → Bool) where
+  pub none-yet : upto p 0 ≡ true
+  unfolding upto
+  none-yet = refl
 
--- fewer numbers pass too
-pub upto-less : (p : ℕ → Bool) (n i : ℕ) → n ≤ i → upto p i ≡ true → upto p n ≡ true
-upto-less p n i h e = at-upto p n (λ j k. upto-at p i e j (omega arith))
+  pub one-fails : (n i : ℕ) (b : Bool) → i < n → b ≡ p i → not b ≡ true → false ≡ upto p n
+  one-fails n i b h e f = sym (upto-fails p n i h (sym e ∙ not-true b f))
+
+  pub one-more : (i : ℕ) (b : Bool) → upto p i ≡ true → b ≡ p i → not b ≡ false → upto p (i + 1) ≡ true
+  unfolding upto
+  one-more i b w e f = rw add-one (true-and (p i) (upto p i) (sym e ∙ not-false b f) w)
+
+  pub all-passed : (n i : ℕ) → upto p i ≡ true → n ≤ i → true ≡ upto p n
+  all-passed n i w h = sym (at-upto p n (λ j k. upto-at p i w j (omega arith)))
 
 -- ---- of a list
 

@@ -23,6 +23,7 @@ use Rattle.sound.specs.Check.{CanCheck, countTests, Counted, Hung, table
 use Rattle.sound.proofs.Tests.{same-tests, all-fails, read-last}
 use Rattle.sound.proofs.Nodes.{hung-at}
 use Rattle.sound.proofs.Tables.{areas}
+use Rattle.layout.specs.Layout.{usedIn}
 
 -- ---- the waiting list
 
@@ -30,11 +31,11 @@ module _ (m l : ℕ) (t : List ℕ) where
   waiting-nodes : allIn (λ i. ltb i (length (treeIn m l t .nodes))) (treeIn m l t .waiting) ≡ true
   unfolding treeIn
   waiting-nodes = at-all-in _ (treeIn m l t .waiting) (λ i k.
-      lt-ltb i _ (omega (arith, tree-nodes m l t, numbers-mem (getD t 1 0) i (those-mem (λ n. mem n (queueIn l t)) (numbers (getD t 1 0)) i k .0))))
+      lt-ltb i _ (omega (arith, tree-nodes m l t, numbers-mem (usedIn t) i (those-mem (λ n. mem n (queueIn l t)) (numbers (usedIn t)) i k .0))))
 
   waiting-ascends : ascendsb 0 (treeIn m l t .waiting) ≡ true
   unfolding treeIn
-  waiting-ascends = at-ascends 0 (treeIn m l t .waiting) (those-ascends (λ n. mem n (queueIn l t)) 0 (numbers (getD t 1 0)) (up-ascends (getD t 1 0) 0))
+  waiting-ascends = at-ascends 0 (treeIn m l t .waiting) (those-ascends (λ n. mem n (queueIn l t)) 0 (numbers (usedIn t)) (up-ascends (usedIn t) 0))
 
 -- ---- the tests
 
@@ -62,7 +63,7 @@ module _ (m l : ℕ) (ws t : List ℕ) (h : CanCheck m l ws t) where
   closers : upto (closerb u) (length (u .closed)) ≡ upto (closerb u) m
   closers = ap (upto (closerb u)) closed-length
 
-  some : ltb 0 (length (u .nodes)) ≡ ltb 0 (getD t 1 0)
+  some : ltb 0 (length (u .nodes)) ≡ ltb 0 (usedIn t)
   some = ap (ltb 0) (tree-nodes m l t)
 
   passes : (formedb l t && soundb d u) ≡ true → allb (treeTests d m l t) ≡ true
@@ -104,11 +105,12 @@ module _ (m l : ℕ) (ws t : List ℕ) (h : CanCheck m l ws t) where
 
 -- ---- what each answer says, in turn
 
-module _ {m l : ℕ} {ws t : List ℕ} (h : CanCheck m l ws t) where
-  -- test k fails
-  pub tree-fails : (k : ℕ) {a : Bool} → a ≡ getD (treeTests (domainOf m l ws) m l t) k true → not a ≡ true → false ≡ treeWordsb (domainOf m l ws) m l t
-  tree-fails k {a} e n = sym (tree-tests m l ws t h ∙ all-fails (treeTests (domainOf m l ws) m l t) k (sym e ∙ not-true a n))
+-- test k fails
+pub tree-fails : (k : ℕ) {m l : ℕ} {ws t : List ℕ} → CanCheck m l ws t → {a : Bool} → a ≡ getD (treeTests (domainOf m l ws) m l t) k true → not a ≡ true
+    → false ≡ treeWordsb (domainOf m l ws) m l t
+tree-fails k {m} {l} {ws} {t} h {a} e n = sym (tree-tests m l ws t h ∙ all-fails (treeTests (domainOf m l ws) m l t) k (sym e ∙ not-true a n))
 
+module _ {m l : ℕ} {ws t : List ℕ} (h : CanCheck m l ws t) where
   module _ {a : Bool} (ea : a ≡ allb (countTests l t)) (pa : not a ≡ false) where
     pub counted : Counted m l ws t
     counted =

@@ -13,7 +13,7 @@ use Rattle.model.specs.Lists.{numbers, mem, allBelow, allIn, anyIn}
 use Rattle.model.specs.Tree.{evaluation}
 use Rattle.model.proofs.Bools.{all-true, all-below, all-in-at, at-all-in, any-in-at, at-any-in}
 use Rattle.model.proofs.Lists.{numbers-has, those-mem, those-has, mem-listed, listed-mem}
-use Rattle.layout.specs.Layout.{queueAt, part}
+use Rattle.layout.specs.Layout.{queueAt, part, queuedIn, usedIn}
 use Rattle.layout.specs.Read.{treeIn}
 use Rattle.layout.specs.Sound.{queueIn, queueTests}
 use Rattle.queue.specs.Queue.{evaluationIn, key, rank, Heap}
@@ -26,16 +26,16 @@ use Rattle.tree.proofs.Closed.{node-cost}
 use Rattle.sound.specs.Check.{Waits}
 use Rattle.sound.proofs.Tests.{same-tests}
 
-module _ (m l : ℕ) (t : List ℕ) (below : allBelow (getD t 1 0) (queueIn l t) ≡ true) where
+module _ (m l : ℕ) (t : List ℕ) (below : allBelow (usedIn t) (queueIn l t) ≡ true) where
   waiting-queued : (k : ℕ) → List·Memᴰ k (treeIn m l t .waiting) → List·Memᴰ k (queueIn l t)
   unfolding treeIn
-  waiting-queued k h = mem-listed k (queueIn l t) (those-mem (λ n. mem n (queueIn l t)) (numbers (getD t 1 0)) k h .1)
+  waiting-queued k h = mem-listed k (queueIn l t) (those-mem (λ n. mem n (queueIn l t)) (numbers (usedIn t)) k h .1)
 
   queued-waiting : (k : ℕ) → List·Memᴰ k (queueIn l t) → List·Memᴰ k (treeIn m l t .waiting)
   unfolding treeIn
   queued-waiting k h =
       let e : mem k (queueIn l t) ≡ true = listed-mem k (queueIn l t) h in
-      those-has (λ n. mem n (queueIn l t)) (numbers (getD t 1 0)) k (numbers-has (getD t 1 0) k (all-below (getD t 1 0) (queueIn l t) below k e)) e
+      those-has (λ n. mem n (queueIn l t)) (numbers (usedIn t)) k (numbers-has (usedIn t) k (all-below (usedIn t) (queueIn l t) below k e)) e
 
   all-waiting : (p : ℕ → Bool) → allIn p (treeIn m l t .waiting) ≡ allIn p (queueIn l t)
   all-waiting p =
@@ -57,41 +57,41 @@ module _ (m l : ℕ) (t : List ℕ) (below : allBelow (getD t 1 0) (queueIn l t)
 -- ---- the first queue word names a waiting node of the least cost
 
 module _ (l : ℕ) (t : List ℕ) (w : Waits l t) where
-  fits : queueAt l + getD t 2 0 ≤ length t
+  fits : queueAt l + queuedIn t ≤ length t
   fits = omega (arith, w .areas .queued, w .areas .fits)
 
-  pub all-below-used : allBelow (getD t 1 0) (queueIn l t) ≡ true
-  all-below-used = all-true (queueTests l t (getD t 2 0)) (w .queue) .0
+  pub all-below-used : allBelow (usedIn t) (queueIn l t) ≡ true
+  all-below-used = all-true (queueTests l t (queuedIn t)) (w .queue) .0
 
-  pub queued-node : (i : ℕ) → i < getD t 2 0 → getD t (queueAt l + i) 0 < getD t 1 0
-  queued-node = below-at t (queueAt l) (getD t 2 0) (getD t 1 0) fits all-below-used
+  pub queued-node : (i : ℕ) → i < queuedIn t → getD t (queueAt l + i) 0 < usedIn t
+  queued-node = below-at t (queueAt l) (queuedIn t) (usedIn t) fits all-below-used
 
-  heap : Heap (rank t (queueAt l)) (getD t 2 0)
-  heap = heap-at l t fits (omega (arith, w .areas .used, w .areas .edges)) queued-node (all-true (queueTests l t (getD t 2 0)) (w .queue) .1 .1 .0)
+  heap : Heap (rank t (queueAt l)) (queuedIn t)
+  heap = heap-at l t fits (omega (arith, w .areas .used, w .areas .edges)) queued-node (all-true (queueTests l t (queuedIn t)) (w .queue) .1 .1 .0)
 
-  first-least : (i : ℕ) → i < getD t 2 0 → evaluationIn t (getD t (queueAt l) 0) ≤ evaluationIn t (getD t (queueAt l + i) 0)
+  first-least : (i : ℕ) → i < queuedIn t → evaluationIn t (getD t (queueAt l) 0) ≤ evaluationIn t (getD t (queueAt l + i) 0)
   unfolding rank key
   first-least i h =
       let least : key t (getD t (queueAt l) 0) ≤ key t (getD t (queueAt l + i) 0) = rw add-zero at (heap-least heap i h) in
       omega (arith, queued-node i h, w .areas .used, w .areas .edges)
 
-  first-queued : 0 < getD t 2 0 → List·Memᴰ (getD t (queueAt l) 0) (queueIn l t)
+  first-queued : 0 < queuedIn t → List·Memᴰ (getD t (queueAt l) 0) (queueIn l t)
   first-queued some =
-      let often = rw add-zero at (place-times t (queueAt l) (getD t 2 0) 0 some) in
-      mem-listed (getD t (queueAt l) 0) (queueIn l t) (mem-times t (queueAt l) (getD t 2 0) _ fits ∙ lt-ltb 0 _ often)
+      let often = rw add-zero at (place-times t (queueAt l) (queuedIn t) 0 some) in
+      mem-listed (getD t (queueAt l) 0) (queueIn l t) (mem-times t (queueAt l) (queuedIn t) _ fits ∙ lt-ltb 0 _ often)
 
-  queued-least : (k : ℕ) → List·Memᴰ k (queueIn l t) → (k < getD t 1 0) × (evaluationIn t (getD t (queueAt l) 0) ≤ evaluationIn t k)
+  queued-least : (k : ℕ) → List·Memᴰ k (queueIn l t) → (k < usedIn t) × (evaluationIn t (getD t (queueAt l) 0) ≤ evaluationIn t k)
   queued-least k h =
-      let often = ltb-true 0 _ (sym (mem-times t (queueAt l) (getD t 2 0) k fits) ∙ listed-mem k (queueIn l t) h) in
-      let place = times-place t (queueAt l) (getD t 2 0) k often in
+      let often = ltb-true 0 _ (sym (mem-times t (queueAt l) (queuedIn t) k fits) ∙ listed-mem k (queueIn l t) h) in
+      let place = times-place t (queueAt l) (queuedIn t) k often in
       rw (← place .2) (queued-node (place .0) (place .1), first-least (place .0) (place .1))
 
 module _ (m l : ℕ) (t : List ℕ) (w : Waits l t) where
-  pub none-waits : (p : ℕ → Bool) → getD t 2 0 ≡ 0 → allIn p (treeIn m l t .waiting) ≡ true
+  pub none-waits : (p : ℕ → Bool) → queuedIn t ≡ 0 → allIn p (treeIn m l t .waiting) ≡ true
   unfolding allIn
   none-waits p e = all-waiting m l t (all-below-used l t w) p ∙ ap (λ (n : ℕ). allIn p (part (queueAt l) n t)) e
 
-  pub waiting-first : (c : ℕ) → 0 < getD t 2 0
+  pub waiting-first : (c : ℕ) → 0 < queuedIn t
       → allIn (λ j. leb c (evaluation (treeIn m l t .nodes) j)) (treeIn m l t .waiting) ≡ leb c (evaluationIn t (getD t (queueAt l) 0))
   waiting-first c some = all-waiting m l t (all-below-used l t w) p ∙ same-tests _ _ at-first from-first
     where

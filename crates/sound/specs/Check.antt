@@ -10,10 +10,11 @@ use Rattle.model.specs.Limits.{vertexLimit, edgeLimit, costLimit, slotLimit}
 use Rattle.model.specs.Lists.{mem, allb, upto}
 use Rattle.model.specs.Graph.{Domain}
 use Rattle.model.specs.Sound.{closerb, fewb, begunb, onwardAllb, starts, distinctb}
-use Rattle.layout.specs.Layout.{Sized, placesAt, nodeAt, queueAt, closedWordsAt, treeWords, slotAt, part}
-use Rattle.layout.specs.Read.{treeIn, treesIn, domainOf, readCache}
-use Rattle.layout.specs.Sound.{headerTests, graphTests, queueIn, treeWordsb, slotWords, queueTests}
+use Rattle.layout.specs.Layout.{costIn, Sized, headerWords, placesAt, queueAt, closedWordsAt, treeWords, slotAt, part, edgesIn, queuedIn, startIn, usedIn, vertexIn, verticesIn}
+use Rattle.layout.specs.Read.{treeIn, readTrees, domainOf, readCache}
+use Rattle.layout.specs.Sound.{headerTests, graphTests, queueIn, treeWordsb, queueTests}
 use Rattle.layout.specs.Held.{Held}
+use Rattle.layout.specs.Slots.{slotWords}
 use Rattle.queue.specs.Queue.{evaluationIn}
 use Rattle.tree.specs.Tree.{HasVertex}
 
@@ -24,20 +25,20 @@ pub record CanCheck (m l : ℕ) (ws t : List ℕ) : Type 0 where
 
 -- nodes used and queue length are within their areas, and there is a root
 abbrev pub countTests : ℕ → List ℕ → List Bool
-countTests l t = ltb 0 (getD t 1 0) ∷ leb (getD t 1 0) (1 + l) ∷ leb (getD t 2 0) (1 + l) ∷ []
+countTests l t = ltb 0 (usedIn t) ∷ leb (usedIn t) (1 + l) ∷ leb (queuedIn t) (1 + l) ∷ []
 
 pub record Counted (m l : ℕ) (ws t : List ℕ) : Type 0 where
   pub can : CanCheck m l ws t
-  pub some-node : 0 < getD t 1 0
-  pub used : getD t 1 0 ≤ 1 + l
-  pub queued : getD t 2 0 ≤ 1 + l
+  pub some-node : 0 < usedIn t
+  pub used : usedIn t ≤ 1 + l
+  pub queued : queuedIn t ≤ 1 + l
 
 -- the nodes hang: each node's vertex is one, and its cost is far below 2 ^ 32
 pub record Hung (m l : ℕ) (ws t : List ℕ) : Type 0 where
   pub counted : Counted m l ws t
-  pub start : getD t 0 0 < m
-  pub vertex : (k : ℕ) → k < getD t 1 0 → getD t (nodeAt k) 0 < m
-  pub cost : (k : ℕ) → k < getD t 1 0 → evaluationIn t k ≤ costLimit * (1 + k)
+  pub start : startIn t < m
+  pub vertex : (k : ℕ) → k < usedIn t → vertexIn ws t k < m
+  pub cost : (k : ℕ) → k < usedIn t → costIn t k ≤ costLimit * (1 + k)
 
 -- ---- the queue, with a mark for each node and the least waiting costs
 
@@ -49,13 +50,13 @@ nodeLimit = 1 + edgeLimit
 pub record Areas (l : ℕ) (t : List ℕ) : Type 0 where
   pub edges : l ≤ edgeLimit
   pub fits : closedWordsAt l ≤ length t
-  pub used : getD t 1 0 ≤ 1 + l
-  pub queued : getD t 2 0 ≤ 1 + l
+  pub used : usedIn t ≤ 1 + l
+  pub queued : queuedIn t ≤ 1 + l
 
 -- and each node's vertex is below 1,024
-pub record QueueWords (l : ℕ) (t : List ℕ) : Type 0 where
+pub record QueueWords (l : ℕ) (ws t : List ℕ) : Type 0 where
   pub areas : Areas l t
-  pub vertex : (k : ℕ) → k < getD t 1 0 → getD t (nodeAt k) 0 < vertexLimit
+  pub vertex : (k : ℕ) → k < usedIn t → vertexIn ws t k < vertexLimit
 
 -- n marks: those of the numbers xs are on
 pub record Marked (marks : List Bool) (n : ℕ) (xs : List ℕ) : Type 0 where
@@ -66,57 +67,61 @@ abbrev pub lesserIf : Bool → ℕ → ℕ → ℕ
 lesserIf true a b = min a b
 lesserIf false a b = b
 
--- the least cost of the nodes xs of vertex v, 4294967295 where there is none
-unfoldable pub leastCost : List ℕ → List ℕ → ℕ → ℕ
-leastCost t [] v = 4294967295
-leastCost t (k ∷ ks) v = lesserIf (eqb (getD t (nodeAt k) 0) v) (evaluationIn t k) (leastCost t ks v)
+-- more than any node is compared by
+abbrev pub noCost : ℕ
+noCost = 18446744073709551615
+
+-- the least evaluation of the nodes xs of vertex v, noCost where there is none
+unfoldable pub leastCost : List ℕ → List ℕ → List ℕ → ℕ → ℕ
+leastCost ws t [] v = noCost
+leastCost ws t (k ∷ ks) v = lesserIf (eqb (vertexIn ws t k) v) (evaluationIn t k) (leastCost ws t ks v)
 
 -- "The check builds a table of 1,024 least waiting costs."
-pub record LeastCosts (costs t xs : List ℕ) : Type 0 where
+pub record LeastCosts (costs ws t xs : List ℕ) : Type 0 where
   pub len : length costs ≡ vertexLimit
-  pub least : (v : ℕ) → v < vertexLimit → getD costs v 0 ≡ leastCost t xs v
+  pub least : (v : ℕ) → v < vertexLimit → getD costs v 0 ≡ leastCost ws t xs v
 
 -- the tables after n queue words
-pub record QueueTables (l : ℕ) (t : List ℕ) (n : ℕ) (marks : List Bool) (costs : List ℕ) : Type 0 where
+pub record QueueTables (l : ℕ) (ws t : List ℕ) (n : ℕ) (marks : List Bool) (costs : List ℕ) : Type 0 where
   pub marked : Marked marks nodeLimit (part (queueAt l) n t)
-  pub least : LeastCosts costs t (part (queueAt l) n t)
+  pub least : LeastCosts costs ws t (part (queueAt l) n t)
 
 -- before queue word i, where those before it passed
-pub record QueueTurn (l : ℕ) (t : List ℕ) (i : ℕ) (marks : List Bool) (costs : List ℕ) : Type 0 where
-  pub words : QueueWords l t
-  pub place : i < getD t 2 0
+pub record QueueTurn (l : ℕ) (ws t : List ℕ) (i : ℕ) (marks : List Bool) (costs : List ℕ) : Type 0 where
+  pub words : QueueWords l ws t
+  pub place : i < queuedIn t
   pub passed : allb (queueTests l t i) ≡ true
-  pub tables : QueueTables l t i marks costs
+  pub tables : QueueTables l ws t i marks costs
 
 -- the answer for n queue words, and the tables if it is yes
-pub record QueueIs (l : ℕ) (t : List ℕ) (n : ℕ) (r : Bool) (marks : List Bool) (costs : List ℕ) : Type 0 where
+pub record QueueIs (l : ℕ) (ws t : List ℕ) (n : ℕ) (r : Bool) (marks : List Bool) (costs : List ℕ) : Type 0 where
   pub answer : r ≡ allb (queueTests l t n)
-  pub tables : r ≡ true → QueueTables l t n marks costs
+  pub tables : r ≡ true → QueueTables l ws t n marks costs
 
 -- ---- closed words and edges
 
 -- a tree's words whose queue words passed
 pub record Waits (l : ℕ) (t : List ℕ) : Type 0 where
   pub areas : Areas l t
-  pub queue : allb (queueTests l t (getD t 2 0)) ≡ true
+  pub queue : allb (queueTests l t (queuedIn t)) ≡ true
 
 pub record RootMarked (l : ℕ) (t : List ℕ) (marks : List Bool) : Type 0 where
   pub waits : Waits l t
-  pub start : HasVertex l t (getD t 0 0)
+  pub start : HasVertex l t (startIn t)
   pub marked : Marked marks nodeLimit (queueIn l t)
 
 -- queue words and closed words passed, and the table is filled
 pub record LeadsOn (m l : ℕ) (ws t costs : List ℕ) : Type 0 where
   pub hung : Hung m l ws t
-  pub queue : allb (queueTests l t (getD t 2 0)) ≡ true
+  pub queue : allb (queueTests l t (queuedIn t)) ≡ true
   pub closers : upto (closerb (treeIn m l t)) m ≡ true
-  pub least : LeastCosts costs t (queueIn l t)
+  pub least : LeastCosts costs ws t (queueIn l t)
 
 -- the clauses for which the tables are there
 abbrev pub tablesTests : Domain → ℕ → ℕ → List ℕ → List Bool
 tablesTests d m l t =
     let u = treeIn m l t in
-    allb (queueTests l t (getD t 2 0))
+    allb (queueTests l t (queuedIn t))
     ∷ upto (closerb u) m
     ∷ fewb d u
     ∷ begunb u
@@ -135,12 +140,17 @@ pub record CanCheckTrees (ws : List ℕ) : Type 0 where
   pub header : allb (headerTests ws) ≡ true
   pub graph : allb (graphTests (readCache ws .domain) ws) ≡ true
 
-pub record TreesIn (m l used : ℕ) (ws : List ℕ) : Type 0 where
-  pub held : Held m l ws
+-- the words hold the graph, and as many slots
+pub record TreesIn (used : ℕ) (ws : List ℕ) : Type 0 where
+  pub header : headerWords ≤ length ws
+  pub held : Held (verticesIn ws) (edgesIn ws) ws
   pub few : used ≤ slotLimit
-  pub fits : slotAt m l used ≤ length ws
+  pub fits : slotAt (verticesIn ws) (edgesIn ws) used ≤ length ws
 
 -- "start motifs differ, and in each tree: .."
-unfoldable pub treesb : ℕ → ℕ → ℕ → List ℕ → Bool
+unfoldable pub treesb : ℕ → List ℕ → Bool
 unfolding upto distinctb treeWordsb
-treesb m l used ws = distinctb (starts (treesIn m l used ws)) && upto (λ i. treeWordsb (domainOf m l ws) m l (slotWords m l i ws)) used
+treesb used ws =
+    let m = verticesIn ws in
+    let l = edgesIn ws in
+    distinctb (starts (readTrees m l used ws)) && upto (λ i. treeWordsb (domainOf m l ws) m l (slotWords m l i ws)) used

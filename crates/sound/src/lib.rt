@@ -5,6 +5,7 @@ pub mod trees;
 
 use crate::trees::is_zero;
 use crate::trees::tree_is_sound;
+use layout::slots::slot_words;
 use layout::wide;
 use model::limits::MAX_COST;
 use model::limits::MAX_EDGES;
@@ -13,10 +14,10 @@ use model::limits::MAX_VERTICES;
 ghost use mathlib.Core.Path.{_≡_};
 ghost use mathlib.Core.Bool.{true, false};
 ghost use Prim.Native.Nat.{_+_, _<_, _≤_};
-ghost use lib.ListN.{length, getD, replicate};
+ghost use lib.ListN.{length, replicate};
 ghost use Rattle.model.specs.Limits.{vertexLimit};
 ghost use Rattle.model.specs.Lists.{allb, upto};
-ghost use Rattle.layout.specs.Layout.{initialAt};
+ghost use Rattle.layout.specs.Layout.{initialAt, initialIn};
 ghost use Rattle.layout.specs.Read.{readCache, graphIn};
 ghost use Rattle.layout.specs.Sound.{headerTests, initialb, edgeTests, graphTests, treesTests, soundWordsb};
 ghost use Rattle.sound.specs.Check.{CanCheckTrees, HasGraph, TreesIn, treesb};
@@ -81,11 +82,11 @@ fn graph_is_sound(words: &[u32]) -> bool
 
 fn initials_are_sound(words: &[u32], vertices: usize) -> bool
     requires { ⌜ initialAt + vertices ≤ length (now words) ⌝ }
-    ensures { λ r. ⌜ r ≡ upto (λ v. initialb (getD (now (words .entry)) (initialAt + v) 0)) vertices ⌝ }
+    ensures { λ r. ⌜ r ≡ upto (λ v. initialb (initialIn (now (words .entry)) v)) vertices ⌝ }
 {
     let mut v = 0;
     while v < vertices {
-        if !is_initial(layout::initial_cost(words, v)) {
+        if !initial_is_sound(words, v) {
             return false;
         }
         v += 1;
@@ -93,9 +94,11 @@ fn initials_are_sound(words: &[u32], vertices: usize) -> bool
     true
 }
 
-fn is_initial(cost: u32) -> bool
-    ensures { λ r. ⌜ r ≡ initialb cost ⌝ }
+fn initial_is_sound(words: &[u32], vertex: usize) -> bool
+    requires { ⌜ initialAt + vertex < length (now words) ⌝ }
+    ensures { λ r. ⌜ r ≡ initialb (initialIn (now (words .entry)) vertex) ⌝ }
 {
+    let cost = layout::initial_cost(words, vertex);
     if cost == layout::ABSENT {
         return true;
     }
@@ -120,13 +123,13 @@ fn edge_is_sound(words: &[u32], vertices: usize, edges: usize, edge: usize) -> b
     requires { ⌜ HasGraph vertices edges (now words) × (edge < edges) ⌝ }
     ensures { λ r. ⌜ r ≡ allb (edgeTests (graphIn vertices edges (now (words .entry))) edge) ⌝ }
 {
-    if vertices <= wide(layout::edge_word(words, vertices, edge, layout::FROM)) {
+    if vertices <= wide(layout::edge_from(words, vertices, edge)) {
         return false;
     }
-    if vertices <= wide(layout::edge_word(words, vertices, edge, layout::TO)) {
+    if vertices <= wide(layout::edge_to(words, vertices, edge)) {
         return false;
     }
-    wide(layout::edge_word(words, vertices, edge, layout::COST)) <= MAX_COST
+    wide(layout::edge_cost(words, vertices, edge)) <= MAX_COST
 }
 
 fn trees_are_sound(words: &[u32]) -> bool
@@ -137,7 +140,7 @@ fn trees_are_sound(words: &[u32]) -> bool
     let edges = layout::header(words, layout::EDGES);
     let trees = layout::header(words, layout::TREES);
     let mut starts = [false; MAX_VERTICES];
-    if !trees_in_use_are_sound(words, vertices, edges, trees, &mut starts[0..MAX_VERTICES]) {
+    if !trees_in_use_are_sound(words, trees, &mut starts[0..MAX_VERTICES]) {
         return false;
     }
     let at = layout::slot_at(vertices, edges, trees);
@@ -146,24 +149,19 @@ fn trees_are_sound(words: &[u32]) -> bool
 }
 
 // The slots in use, with a mark for each vertex at which a tree starts. All marks are off at first.
-fn trees_in_use_are_sound(
-    words: &[u32],
-    vertices: usize,
-    edges: usize,
-    trees: usize,
-    starts: &mut [bool],
-) -> bool
-    requires { ⌜ TreesIn vertices edges trees (now words) × (now starts ≡ replicate vertexLimit false) ⌝ }
-    ensures { λ r. ⌜ r ≡ treesb vertices edges trees (now (words .entry)) ⌝ }
+fn trees_in_use_are_sound(words: &[u32], trees: usize, starts: &mut [bool]) -> bool
+    requires { ⌜ TreesIn trees (now words) × (now starts ≡ replicate vertexLimit false) ⌝ }
+    ensures { λ r. ⌜ r ≡ treesb trees (now (words .entry)) ⌝ }
 {
+    let vertices = layout::header(words, layout::VERTICES);
+    let edges = layout::header(words, layout::EDGES);
     let mut i = 0;
     while i < trees {
-        let at = layout::slot_at(vertices, edges, i);
-        let end = at + layout::tree_words(vertices, edges);
-        if !tree_is_sound(words, vertices, edges, &words[at..end]) {
+        let tree = slot_words(words, i);
+        if !tree_is_sound(words, vertices, edges, tree) {
             return false;
         }
-        let start = wide(words[at + layout::START]);
+        let start = wide(tree[layout::START]);
         if starts[start] {
             return false;
         }

@@ -8,16 +8,18 @@ ghost use Prim.Native.Nat.{_+_, _<_, _≤_};
 ghost use lib.ListN.{length, getD, replicate};
 ghost use Rattle.model.specs.Limits.{vertexLimit, edgeLimit};
 ghost use Rattle.model.specs.Lists.{allb, upto};
-ghost use Rattle.model.specs.Graph.{rootCost};
-ghost use Rattle.model.specs.Sound.{hangsb, closedEdges, rootTests, hangAllb, closerb, begunb, onwardb, onwardAllb};
-ghost use Rattle.layout.specs.Layout.{initialAt, closedWordsAt};
-ghost use Rattle.layout.specs.Read.{directionOf, treeIn, domainOf};
+ghost use Rattle.model.specs.Sound.{hangsb, closedEdges, rootTests, hangAllb, closerb, begunb, onwardb};
+ghost use Rattle.layout.specs.Layout.{closedWordsAt, usedIn, queuedIn};
+ghost use Rattle.layout.specs.Read.{treeIn, domainOf};
 ghost use Rattle.layout.specs.Sound.{zerosb, treeWordsb, spareTests};
 ghost use Rattle.tree.specs.Tree.{treeOf, HasVertex};
-ghost use Rattle.sound.specs.Check.{CanCheck, countTests, Counted, Hung, QueueWords, QueueTurn, QueueIs, Waits, RootMarked, LeadsOn, tablesTests, Areas, nodeLimit};
+ghost use Rattle.sound.specs.Check.{CanCheck, countTests, Counted, Hung, QueueWords, QueueTurn, QueueIs, Waits, RootMarked, LeadsOn, tablesTests, Areas, nodeLimit, noCost};
 
 // A tree has at most one node more than there are edges.
 const MAX_NODES: usize = 1 + MAX_EDGES;
+
+// More than the evaluation of any node: nothing waits.
+const NO_COST: u64 = 18446744073709551615;
 
 pub fn tree_is_sound(words: &[u32], vertices: usize, edges: usize, tree: &[u32]) -> bool
     requires { ⌜ CanCheck vertices edges (now words) (now tree) ⌝ }
@@ -33,7 +35,7 @@ pub fn tree_is_sound(words: &[u32], vertices: usize, edges: usize, tree: &[u32])
         return false;
     }
     let mut marks = [false; MAX_NODES];
-    let mut costs = [4294967295u32; MAX_VERTICES];
+    let mut costs = [NO_COST; MAX_VERTICES];
     if !queue_and_edges_are_sound(
         words,
         vertices,
@@ -62,17 +64,6 @@ fn counts_are_sound(tree: &[u32], edges: usize) -> bool
     wide(tree[layout::QUEUED]) <= 1 + edges
 }
 
-// The cost of a root: backward, initial costs are not looked at.
-pub fn root_cost(words: &[u32], vertex: usize) -> u32
-    requires { ⌜ initialAt + vertex < length (now words) ⌝ }
-    ensures { λ r. ⌜ r ≡ rootCost (directionOf (getD (now (words .entry)) 0 0)) (getD (now (words .entry)) (initialAt + vertex) 0) ⌝ }
-{
-    if words[layout::DIRECTION] == 0 {
-        return layout::initial_cost(words, vertex);
-    }
-    0
-}
-
 // Node 0 is the root.
 fn root_is_sound(words: &[u32], vertices: usize, edges: usize, tree: &[u32]) -> bool
     requires { ⌜ Counted vertices edges (now words) (now tree) ⌝ }
@@ -82,20 +73,20 @@ fn root_is_sound(words: &[u32], vertices: usize, edges: usize, tree: &[u32]) -> 
     if vertices <= wide(start) {
         return false;
     }
-    let cost = root_cost(words, wide(start));
+    let cost = layout::root_cost(words, wide(start));
     if cost == layout::ABSENT {
         return false;
     }
-    if layout::node_word(tree, 0, layout::NODE_VERTEX) != start {
+    if layout::node_vertex(words, tree, 0) != start {
         return false;
     }
-    if layout::node_word(tree, 0, layout::NODE_COST) != cost {
+    if layout::node_cost(tree, 0) != cost {
         return false;
     }
-    if layout::node_word(tree, 0, layout::NODE_PARENT) != layout::ABSENT {
+    if layout::node_parent(tree, 0) != layout::ABSENT {
         return false;
     }
-    layout::node_word(tree, 0, layout::NODE_EDGE) == layout::ABSENT
+    layout::node_edge(tree, 0) == layout::ABSENT
 }
 
 // Each other node hangs on a closed one.
@@ -116,29 +107,27 @@ fn nodes_hang(words: &[u32], vertices: usize, edges: usize, tree: &[u32]) -> boo
 
 // Node i hangs by an edge on the node that closed the vertex the edge leaves, a lower number.
 fn node_hangs(words: &[u32], vertices: usize, edges: usize, tree: &[u32], i: usize) -> bool
-    requires { ⌜ Counted vertices edges (now words) (now tree) × (i < getD (now tree) 1 0) ⌝ }
+    requires { ⌜ Counted vertices edges (now words) (now tree) × (i < usedIn (now tree)) ⌝ }
     ensures { λ r. ⌜ r ≡ hangsb (domainOf vertices edges (now (words .entry))) (treeIn vertices edges (now (tree .entry)) .nodes) (treeIn vertices edges (now (tree .entry)) .closed) i ⌝ }
 {
-    let parent = wide(layout::node_word(tree, i, layout::NODE_PARENT));
+    let parent = wide(layout::node_parent(tree, i));
     if i <= parent {
         return false;
     }
-    let edge = wide(layout::node_word(tree, i, layout::NODE_EDGE));
+    let edge = wide(layout::node_edge(tree, i));
     if edges <= edge {
         return false;
     }
-    let from = layout::edge_word(words, vertices, edge, layout::FROM);
-    if from != layout::node_word(tree, parent, layout::NODE_VERTEX) {
+    let from = layout::edge_from(words, vertices, edge);
+    if from != layout::node_vertex(words, tree, parent) {
         return false;
     }
-    if layout::edge_word(words, vertices, edge, layout::TO)
-        != layout::node_word(tree, i, layout::NODE_VERTEX)
-    {
+    if layout::edge_to(words, vertices, edge) != layout::node_vertex(words, tree, i) {
         return false;
     }
-    let cost = wide(layout::node_word(tree, parent, layout::NODE_COST))
-        + wide(layout::edge_word(words, vertices, edge, layout::COST));
-    let claimed = wide(layout::node_word(tree, i, layout::NODE_COST));
+    let cost = wide(layout::node_cost(tree, parent))
+        + wide(layout::edge_cost(words, vertices, edge));
+    let claimed = wide(layout::node_cost(tree, i));
     if claimed != cost {
         return false;
     }
@@ -147,22 +136,22 @@ fn node_hangs(words: &[u32], vertices: usize, edges: usize, tree: &[u32], i: usi
 }
 
 // Queue words, closed words and edges, with a mark for each node and the least waiting cost of each vertex. At first all marks
-// are off and all costs 4294967295.
+// are off and nothing waits.
 fn queue_and_edges_are_sound(
     words: &[u32],
     vertices: usize,
     edges: usize,
     tree: &[u32],
     marks: &mut [bool],
-    costs: &mut [u32],
+    costs: &mut [u64],
 ) -> bool
-    requires { ⌜ Hung vertices edges (now words) (now tree) × ((now marks ≡ replicate nodeLimit false) × (now costs ≡ replicate vertexLimit 4294967295)) ⌝ }
+    requires { ⌜ Hung vertices edges (now words) (now tree) × ((now marks ≡ replicate nodeLimit false) × (now costs ≡ replicate vertexLimit noCost)) ⌝ }
     ensures { λ r. ⌜ r ≡ allb (tablesTests (domainOf vertices edges (now (words .entry))) vertices edges (now (tree .entry))) ⌝ }
 {
-    if !queue_is_sound(tree, edges, marks, costs) {
+    if !queue_is_sound(words, tree, edges, marks, costs) {
         return false;
     }
-    if !closed_are_sound(tree, vertices, edges) {
+    if !closed_are_sound(words, tree, vertices, edges) {
         return false;
     }
     let leaving = closed_edges(words, vertices, edges, tree);
@@ -177,14 +166,20 @@ fn queue_and_edges_are_sound(
 }
 
 // Queue words are distinct nodes in heap order; they are marked, and their costs go into the table.
-fn queue_is_sound(tree: &[u32], edges: usize, marks: &mut [bool], costs: &mut [u32]) -> bool
-    requires { ⌜ QueueWords edges (now tree) × ((now marks ≡ replicate nodeLimit false) × (now costs ≡ replicate vertexLimit 4294967295)) ⌝ }
-    ensures { λ r. ⌜ QueueIs edges (now (tree .entry)) (getD (now (tree .entry)) 2 0) r (now (marks .exit)) (now (costs .exit)) ⌝ }
+fn queue_is_sound(
+    words: &[u32],
+    tree: &[u32],
+    edges: usize,
+    marks: &mut [bool],
+    costs: &mut [u64],
+) -> bool
+    requires { ⌜ QueueWords edges (now words) (now tree) × ((now marks ≡ replicate nodeLimit false) × (now costs ≡ replicate vertexLimit noCost)) ⌝ }
+    ensures { λ r. ⌜ QueueIs edges (now (words .entry)) (now (tree .entry)) (queuedIn (now (tree .entry))) r (now (marks .exit)) (now (costs .exit)) ⌝ }
 {
     let queued = wide(tree[layout::QUEUED]);
     let mut i = 0;
     while i < queued {
-        if !queue_word_is_sound(tree, edges, marks, costs, i) {
+        if !queue_word_is_sound(words, tree, edges, marks, costs, i) {
             return false;
         }
         i += 1;
@@ -194,14 +189,15 @@ fn queue_is_sound(tree: &[u32], edges: usize, marks: &mut [bool], costs: &mut [u
 
 // The queue word at place i, where those before it are sound.
 fn queue_word_is_sound(
+    words: &[u32],
     tree: &[u32],
     edges: usize,
     marks: &mut [bool],
-    costs: &mut [u32],
+    costs: &mut [u64],
     i: usize,
 ) -> bool
-    requires { ⌜ QueueTurn edges (now tree) i (now marks) (now costs) ⌝ }
-    ensures { λ r. ⌜ QueueIs edges (now (tree .entry)) (i + 1) r (now (marks .exit)) (now (costs .exit)) ⌝ }
+    requires { ⌜ QueueTurn edges (now words) (now tree) i (now marks) (now costs) ⌝ }
+    ensures { λ r. ⌜ QueueIs edges (now (words .entry)) (now (tree .entry)) (i + 1) r (now (marks .exit)) (now (costs .exit)) ⌝ }
 {
     let queue = layout::queue_at(edges);
     let word = tree[queue + i];
@@ -219,7 +215,7 @@ fn queue_word_is_sound(
         }
     }
     marks[node] = true;
-    let vertex = wide(layout::node_word(tree, node, layout::NODE_VERTEX));
+    let vertex = wide(layout::node_vertex(words, tree, node));
     let cost = queue::evaluation(tree, word);
     if cost < costs[vertex] {
         costs[vertex] = cost;
@@ -228,13 +224,13 @@ fn queue_word_is_sound(
 }
 
 // Each closed word names a node of its vertex that costs no more than any waiting node, so no more than the first.
-fn closed_are_sound(tree: &[u32], vertices: usize, edges: usize) -> bool
+fn closed_are_sound(words: &[u32], tree: &[u32], vertices: usize, edges: usize) -> bool
     requires { ⌜ Waits edges (now tree) × (closedWordsAt edges + vertices ≤ length (now tree)) ⌝ }
     ensures { λ r. ⌜ r ≡ upto (closerb (treeOf edges (now (tree .entry)))) vertices ⌝ }
 {
     let mut v = 0;
     while v < vertices {
-        if !closed_word_is_sound(tree, edges, v) {
+        if !closed_word_is_sound(words, tree, edges, v) {
             return false;
         }
         v += 1;
@@ -242,7 +238,7 @@ fn closed_are_sound(tree: &[u32], vertices: usize, edges: usize) -> bool
     true
 }
 
-fn closed_word_is_sound(tree: &[u32], edges: usize, vertex: usize) -> bool
+fn closed_word_is_sound(words: &[u32], tree: &[u32], edges: usize, vertex: usize) -> bool
     requires { ⌜ Waits edges (now tree) × HasVertex edges (now tree) vertex ⌝ }
     ensures { λ r. ⌜ r ≡ closerb (treeOf edges (now (tree .entry))) vertex ⌝ }
 {
@@ -254,7 +250,7 @@ fn closed_word_is_sound(tree: &[u32], edges: usize, vertex: usize) -> bool
     if tree[layout::NODES] <= node {
         return false;
     }
-    if wide(layout::node_word(tree, wide(node), layout::NODE_VERTEX)) != vertex {
+    if wide(layout::node_vertex(words, tree, wide(node))) != vertex {
         return false;
     }
     if tree[layout::QUEUED] == 0 {
@@ -275,7 +271,7 @@ fn closed_edges(words: &[u32], vertices: usize, edges: usize, tree: &[u32]) -> u
     let mut count = 0;
     let mut e = 0;
     while e < edges {
-        let from = wide(layout::edge_word(words, vertices, e, layout::FROM));
+        let from = wide(layout::edge_from(words, vertices, e));
         if tree[closed + from] != 0 {
             count += 1;
         }
@@ -297,9 +293,9 @@ fn root_is_reached(tree: &[u32], edges: usize, marks: &[bool]) -> bool
 }
 
 // Each edge that leaves a closed vertex reaches one that is closed, or waits, at no more than the sum.
-fn edges_lead_on(words: &[u32], vertices: usize, edges: usize, tree: &[u32], costs: &[u32]) -> bool
+fn edges_lead_on(words: &[u32], vertices: usize, edges: usize, tree: &[u32], costs: &[u64]) -> bool
     requires { ⌜ LeadsOn vertices edges (now words) (now tree) (now costs) ⌝ }
-    ensures { λ r. ⌜ r ≡ onwardAllb (domainOf vertices edges (now (words .entry))) (treeIn vertices edges (now (tree .entry))) ⌝ }
+    ensures { λ r. ⌜ r ≡ upto (onwardb (domainOf vertices edges (now (words .entry))) (treeIn vertices edges (now (tree .entry)))) edges ⌝ }
 {
     let mut e = 0;
     while e < edges {
@@ -316,29 +312,28 @@ fn edge_leads_on(
     vertices: usize,
     edges: usize,
     tree: &[u32],
-    costs: &[u32],
+    costs: &[u64],
     edge: usize,
 ) -> bool
     requires { ⌜ LeadsOn vertices edges (now words) (now tree) (now costs) × (edge < edges) ⌝ }
     ensures { λ r. ⌜ r ≡ onwardb (domainOf vertices edges (now (words .entry))) (treeIn vertices edges (now (tree .entry))) edge ⌝ }
 {
     let closed = layout::closed_at(edges);
-    let from = wide(layout::edge_word(words, vertices, edge, layout::FROM));
+    let from = wide(layout::edge_from(words, vertices, edge));
     let word = tree[closed + from];
     if word == 0 {
         return true;
     }
-    let sum = wide(queue::evaluation(tree, word - 1))
-        + wide(layout::edge_word(words, vertices, edge, layout::COST));
-    let to = wide(layout::edge_word(words, vertices, edge, layout::TO));
+    let sum = queue::evaluation(tree, word - 1)
+        + queue::weight_of(layout::edge_cost(words, vertices, edge));
+    let to = wide(layout::edge_to(words, vertices, edge));
     let reached = tree[closed + to];
     if reached != 0 {
-        if wide(queue::evaluation(tree, reached - 1)) <= sum {
+        if queue::evaluation(tree, reached - 1) <= sum {
             return true;
         }
     }
-    let waiting = wide(costs[to]);
-    waiting <= sum
+    costs[to] <= sum
 }
 
 // Unused nodes and queue words are 0.

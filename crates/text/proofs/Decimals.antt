@@ -5,17 +5,19 @@ use mathlib.Core.Bool.{Bool, true, false, _&&_}
 use mathlib.Core.List.{List, [], _∷_, _++_, append-nil, append-assoc}
 use mathlib.Core.Logic.{_≢_}
 use Prim.Native.Nat.{ℕ, zero, suc, _+_, _-_, _*_, _/_, _%_, _^_, _<_, _≤_}
+use native.Mathlib.Nat.{add-zero, pow-suc}
 use native.Mathlib.Decide.{decLe}
 use native.Mathlib.Omega.{arith}
 use borrow.Author.Tests.{ltb-true, ltb-false, leb-true, lt-ltb, le-ltb, le-leb}
 use lib.Dec.{leb, ltb}
 use lib.ListN.{length, length-append}
+use Rattle.model.specs.Lists.{allb}
 use Rattle.text.specs.declared.bytes.Number.{Number}
 use Rattle.text.specs.declared.bytes.Number.the-variants.{Of, Illegal}
-use Rattle.text.specs.Bytes.{isDigit, legalIf, digitsFrom, numberOf}
+use Rattle.text.specs.Bytes.{isDigit, legalIf, digitsFrom, numberTests, numberOf}
 use Rattle.text.specs.Print.{digitsBy, decimalIn, decimal}
 use Rattle.text.proofs.Pieces.{Above, above-append, above-less}
-use Rattle.text.proofs.Numbers.{number-empty, number-long, number-zero, number-one, number-more}
+use Rattle.text.proofs.Numbers.{digits-fit, number-empty, number-long, number-zero, number-one, number-more}
 
 -- ---- digits read on
 
@@ -40,7 +42,7 @@ digit-last v d h =
     let e : 48 + d - 48 ≡ d = omega arith in
     rw (le-leb 48 (48 + d) (omega arith), le-leb (48 + d) 57 (omega arith), e)
 
-of-legal : (n : ℕ) → _≡_ {A = Number} Illegal (Of n) → ⊥
+pub of-legal : (n : ℕ) → _≡_ {A = Number} Illegal (Of n) → ⊥
 of-legal n e = let y : _≡_ {A = ℕ} 0 1 = cc in omega arith
 
 -- a number begins with a digit
@@ -53,6 +55,16 @@ digit-first v x l n e = go (leb 48 x) refl (leb x 57) refl e
     go true low true high q = (leb-true 48 x low, leb-true x 57 high, q)
     go true low false high q = absurd (of-legal n q)
     go false low b high q = absurd (of-legal n q)
+
+digits-below : (l : List ℕ) (v k n : ℕ) → v < 10 ^ k → digitsFrom v l ≡ Of n → n < 10 ^ (k + length l)
+unfolding digitsFrom
+digits-below [] v k n h e =
+    let same : v ≡ n = cc in
+    rw (← same, add-zero k) h
+digits-below (x ∷ l) v k n h e =
+    let d = digit-first v x l n e in
+    let long : suc k + length l ≡ k + suc (length l) = omega arith in
+    rw (← long) (digits-below l (v * 10 + (x - 48)) (suc k) n (rw (pow-suc 10 k) (omega (arith, d .0, d .1))) (d .2))
 
 -- ---- the text of a number
 
@@ -148,13 +160,25 @@ decimal-digits x xs n few head e =
     let value : 0 * 10 + (x - 48) ≡ x - 48 = omega arith in
     decimal-behind xs (suc (9 - length xs)) (x - 48) (x ∷ []) 10 n (sym (decimal-short (9 - length xs) (x - 48) (omega arith) ∙ rw byte)) (omega arith) (λ h. omega (arith, head h)) (rw value at (d .2))
 
+-- what is read as a number has at most 10 digits
+number-few : (l : List ℕ) (n : ℕ) → numberOf l ≡ Of n → length l ≤ 10
+number-few l n e = elim (decLe (length l) 10) [ yes h ↦ h | no h ↦ absurd (of-legal n (sym (number-long l (omega arith)) ∙ e)) ]
+
+pub number-small : (l : List ℕ) (n : ℕ) → numberOf l ≡ Of n → n ≤ 9999999999
+unfolding numberOf
+number-small l n e = omega (arith, digits-fit n (0 + length l) (digits-below l 0 0 n (omega arith) (go (allb (numberTests l)) e)) (omega (arith, number-few l n e)))
+  where
+    go : (t : Bool) → legalIf t (digitsFrom 0 l) ≡ Of n → digitsFrom 0 l ≡ Of n
+    go true q = q
+    go false q = absurd (of-legal n q)
+
 pub decimal-number : (l : List ℕ) (n : ℕ) → numberOf l ≡ Of n → l ≡ decimal n
 decimal-number [] n e = absurd (of-legal n (sym (number-empty [] refl) ∙ e))
 decimal-number (x ∷ []) n e = decimal-digits x [] n (omega arith) (λ h. absurd (omega arith)) (sym (number-one (x ∷ []) refl) ∙ e)
 decimal-number (x ∷ y ∷ l) n e = decimal-digits x (y ∷ l) n (omega (arith, few)) (λ h. head) (sym (number-more (x ∷ y ∷ l) (omega arith) few head) ∙ e)
   where
     few : length (x ∷ y ∷ l) ≤ 10
-    few = elim (decLe (length (x ∷ y ∷ l)) 10) [ yes h ↦ h | no h ↦ absurd (of-legal n (sym (number-long (x ∷ y ∷ l) (omega arith)) ∙ e)) ]
+    few = number-few (x ∷ y ∷ l) n e
 
     head : x ≢ 48
     head z = of-legal n (sym (number-zero (x ∷ y ∷ l) (omega arith) few z) ∙ e)

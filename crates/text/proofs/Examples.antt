@@ -12,7 +12,7 @@ use Rattle.text.specs.Print.{printed}
 use Rattle.text.specs.Read.{readGraph, judge}
 
 unfoldable said : string.String → Reply Counts
-unfolding bytes judge
+unfolding judge
 said s = judge (bytes s)
 
 -- 01's chart, read and printed
@@ -31,21 +31,21 @@ exampleGraph =
     }
 
 read-example : readGraph (bytes exampleText) ≡ answered exampleGraph
-unfolding bytes readGraph
+unfolding readGraph
 read-example = refl
 
 printed-example : printed exampleGraph ≡ bytes exampleText
-unfolding bytes printed
+unfolding printed
 printed-example = refl
 
 -- digits up to the limits
 printed-limits : printed (record { initial = 999999 ∷ 10 ∷ []; edges = record { from = 1; to = 0; cost = 100000 } ∷ [] })
     ≡ bytes "M,0,999999\nM,1,10\nL,1,0,100000\n"
-unfolding bytes printed
+unfolding printed
 printed-limits = refl
 
 printed-empty : printed (record { initial = []; edges = [] }) ≡ bytes ""
-unfolding bytes printed
+unfolding printed
 printed-empty = refl
 
 sample : said exampleText ≡ answered (record { vertices = 4; edges = 3 })

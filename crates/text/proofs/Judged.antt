@@ -14,7 +14,8 @@ use Rattle.text.specs.Bytes.{place}
 use Rattle.text.specs.Lines.{lineOf, linesOf}
 use Rattle.text.specs.Read.{lineFaults, counted, judgeFrom, noCounts, judge}
 use Rattle.text.proofs.Passed.{Within, none-within, fine, within-counted}
-use Rattle.text.proofs.LineCuts.{rest, rest-length, lines-past, place-within, lines-unended, lines-next}
+use Rattle.text.proofs.Parts.{rest, rest-length}
+use Rattle.text.proofs.LineCuts.{lines-past, place-within, lines-unended, lines-next}
 
 -- the lines above are the first bytes of the text, up to at, and count k
 pub record Judging (text : List ℕ) (k : Counts) (above at : ℕ) : Type 0 where

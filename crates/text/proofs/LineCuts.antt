@@ -13,7 +13,7 @@ use Rattle.text.specs.declared.lines.Line.the-variants.{Illegal}
 use Rattle.text.specs.Bytes.{place, parted, parting}
 use Rattle.text.specs.Lines.{lineOf, lined, linedFrom, linesOf}
 use Rattle.text.proofs.Parted.{place-le, parted-cut, parted-whole}
-use Rattle.text.proofs.Parts.{part-front, part-back}
+use Rattle.text.proofs.Parts.{rest, rest-length, part-front, part-back}
 
 pub lines-none : linesOf [] ≡ []
 unfolding linesOf
@@ -40,13 +40,6 @@ lines-whole [] h e = absurd (omega arith)
 lines-whole (x ∷ xs) h e = rw (parted-whole 10 (x ∷ xs) e)
 
 -- ---- the same at a place in a text
-
--- the bytes from there on, as `&text[at..]` has them
-abbrev pub rest : List ℕ → ℕ → List ℕ
-rest text at = take (length text - at) (drop at text)
-
-pub rest-length : (text : List ℕ) (at : ℕ) → length (rest text at) ≡ length text - at
-rest-length text at = ap length (part-back at text) ∙ length-drop at text
 
 pub lines-past : (text : List ℕ) (at : ℕ) → length text ≤ at → linesOf (drop at text) ≡ []
 lines-past text at h = ap linesOf (ext-getD 0 (drop at text) [] (omega (arith, length-drop at text)) (λ i l. absurd (omega (arith, length-drop at text)))) ∙ lines-none

@@ -13,10 +13,12 @@ use Rattle.text.specs.declared.lines.InitialCost.the-variants.{Absent, C
 use Rattle.text.specs.declared.lines.Line.{Line}
 use Rattle.text.specs.declared.lines.Line.the-variants.{Vertex, Edge, Illegal}
 use Rattle.text.specs.Bytes.{parted, isOnly, numberOf}
-use Rattle.text.specs.Lines.{lineIf, vertexBy, edgeBy, formOf, lineOf, linedFrom, lined, linesOf}
+use Rattle.text.specs.Lines.{lineOf, linedFrom, lined, linesOf}
 use Rattle.text.specs.Print.{decimal}
 use Rattle.text.proofs.Pieces.{rejoinedFrom, rejoined, rejoined-parted, Above, above-append, parted-next, parted-last}
 use Rattle.text.proofs.Decimals.{decimal-above, number-decimal, decimal-number}
+use Rattle.text.proofs.OneByte.{only-is, only-above}
+use Rattle.text.proofs.Forms.{lineIf, vertexBy, edgeBy, pieceLine, line-form}
 use Rattle.text.proofs.LineCuts.{lined-cons}
 
 abbrev pub initialText : InitialCost → List ℕ
@@ -61,21 +63,16 @@ line-above (Edge m n c) w =
 field-parted : (n : ℕ) (l : List ℕ) → Written n → parted 44 (decimal n ++ (44 ∷ l)) ≡ decimal n ∷ parted 44 l
 field-parted n l w = parted-next 44 (decimal n) l (decimal-above 44 n (omega arith) w)
 
-only-above : (l : List ℕ) → Above 45 l → isOnly 45 l ≡ false
-only-above [] h = refl
-only-above (x ∷ []) h = ne-eqb x 45 (omega arith)
-only-above (x ∷ y ∷ l) h = refl
-
 vertex-of : (n : ℕ) (i : InitialCost) → Written n → LegalCost i → vertexBy (numberOf (decimal n)) (isOnly 45 (initialText i)) (numberOf (initialText i)) ≡ Vertex n i
 vertex-of n Absent w h = rw (number-decimal n w)
-vertex-of n (Cost c) w h = rw (number-decimal n w, only-above (decimal c) (decimal-above 45 c (omega arith) h), number-decimal c h)
+vertex-of n (Cost c) w h = rw (number-decimal n w, only-above 45 (decimal c) (decimal-above 45 c (omega arith) h), number-decimal c h)
 
 line-of : (x : Line) → Legal x → lineOf (lineText x) ≡ x
-unfolding lineOf
+unfolding pieceLine parted
 line-of Illegal w = absurd w
-line-of (Vertex n i) w = rw (field-parted n (initialText i) (w .0), parted-last 44 (initialText i) (cost-above 44 i (omega arith) (w .1))) (vertex-of n i (w .0) (w .1))
+line-of (Vertex n i) w = line-form (lineText (Vertex n i)) ∙ rw (field-parted n (initialText i) (w .0), parted-last 44 (initialText i) (cost-above 44 i (omega arith) (w .1))) (vertex-of n i (w .0) (w .1))
 line-of (Edge m n c) w =
-    rw (
+    line-form (lineText (Edge m n c)) ∙ rw (
       field-parted m (decimal n ++ (44 ∷ decimal c)) (w .0),
       field-parted n (decimal c) (w .1),
       parted-last 44 (decimal c) (decimal-above 44 c (omega arith) (w .2)),
@@ -86,13 +83,8 @@ line-of (Edge m n c) w =
 
 -- ---- no other text is
 
-only-is : (b : ℕ) (l : List ℕ) → isOnly b l ≡ true → l ≡ b ∷ []
-only-is b [] e = absurd (true≢false (sym e))
-only-is b (x ∷ []) e = ap (λ (y : ℕ). y ∷ []) (eqb-true x b e)
-only-is b (x ∷ y ∷ l) e = absurd (true≢false (sym e))
-
-form-text : (ps : List (List ℕ)) → Legal (formOf ps) → rejoined 44 ps ≡ lineText (formOf ps)
-unfolding formOf
+form-text : (ps : List (List ℕ)) → Legal (pieceLine ps) → rejoined 44 ps ≡ lineText (pieceLine ps)
+unfolding pieceLine
 form-text [] w = absurd w
 form-text (t ∷ []) w = absurd w
 form-text (t ∷ f ∷ []) w = absurd w
@@ -117,8 +109,7 @@ form-text (t ∷ m ∷ n ∷ c ∷ []) w = go (isOnly 76 t) refl (numberOf m) re
 form-text (t ∷ m ∷ n ∷ c ∷ f ∷ fs) w = absurd w
 
 line-text : (l : List ℕ) → Legal (lineOf l) → l ≡ lineText (lineOf l)
-unfolding lineOf
-line-text l w = sym (rejoined-parted 44 l) ∙ form-text (parted 44 l) w
+line-text l w = sym (rejoined-parted 44 l) ∙ form-text (parted 44 l) (rw (line-form l) at w) ∙ ap lineText (sym (line-form l))
 
 -- ---- the lines of a text
 

@@ -1,6 +1,6 @@
 -- The parts of a slice, `s[0..k]` and `s[p..]`, as lists.
 -- Assumes nothing.
-use mathlib.Core.Path.{_≡_, sym, _∙_}
+use mathlib.Core.Path.{_≡_, sym, ap, _∙_}
 use mathlib.Core.List.{List}
 use Prim.Native.Nat.{ℕ, _-_}
 use native.Mathlib.Nat.{sub-zero}
@@ -20,3 +20,10 @@ front-is f k l e g = sym (rw part-front at e) ∙ g
 
 pub back-is : {B : Type 0} {r v : B} (f : List ℕ → B) (p : ℕ) (l : List ℕ) → r ≡ f (take (length l - p) (drop p l)) → r ≡ v → f (drop p l) ≡ v
 back-is f p l e g = sym (rw part-back at e) ∙ g
+
+-- the bytes from a place on, as `&text[at..]` has them
+abbrev pub rest : List ℕ → ℕ → List ℕ
+rest text at = take (length text - at) (drop at text)
+
+pub rest-length : (text : List ℕ) (at : ℕ) → length (rest text at) ≡ length text - at
+rest-length text at = ap length (part-back at text) ∙ length-drop at text

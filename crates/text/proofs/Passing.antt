@@ -13,7 +13,8 @@ use Rattle.text.specs.Bytes.{place}
 use Rattle.text.specs.Lines.{lineOf, linesOf}
 use Rattle.text.specs.Read.{counted, judgeFrom, noCounts, judge}
 use Rattle.text.proofs.Passed.{Within, none-within, within-counted, Passes, fine-first, passes-first, passes-rest}
-use Rattle.text.proofs.LineCuts.{rest, rest-length, place-within, lines-unended, lines-next}
+use Rattle.text.proofs.Parts.{rest, rest-length}
+use Rattle.text.proofs.LineCuts.{place-within, lines-unended, lines-next}
 
 -- the lines above are the first bytes of the text, up to at, and count k; all lines count z
 pub record Passing (text : List ℕ) (k z : Counts) (at : ℕ) : Type 0 where

@@ -34,7 +34,7 @@ abbrev pub letterM : ℕ
 letterM = 77
 
 -- a text in ASCII, as its bytes
-unfoldable pub bytes : string.String → List ℕ
+abbrev pub bytes : string.String → List ℕ
 bytes string.[] = []
 bytes (string._∷_ c s) = code c ∷ bytes s
 

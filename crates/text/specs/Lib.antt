@@ -1,4 +1,5 @@
 pub mod Bytes
+pub mod Fields
 pub mod Lines
 pub mod Print
 pub mod Read

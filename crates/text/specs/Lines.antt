@@ -1,53 +1,38 @@
 -- The lines of a graph's text: `M,number,start cost` and `L,from,to,picks`. 01 calls the text a chart.
 -- Assumes nothing.
-use mathlib.Core.Bool.{Bool, true, false}
+use mathlib.Core.Bool.{Bool, true, false, cond}
 use mathlib.Core.List.{List, [], _∷_}
 use Prim.Native.Nat.{ℕ}
-use Rattle.text.specs.declared.bytes.Number.{Number}
-use Rattle.text.specs.declared.bytes.Number.the-variants as field
+use lib.Dec.{eqb}
+use Rattle.model.specs.Lists.{allb}
+use Rattle.text.specs.declared.fields.Fields.{Fields}
+use Rattle.text.specs.declared.fields.Lettered.{Lettered}
+use Rattle.text.specs.declared.lines.InitialCost.{InitialCost}
 use Rattle.text.specs.declared.lines.InitialCost.the-variants.{Absent, Cost}
 use Rattle.text.specs.declared.lines.Line.{Line}
 use Rattle.text.specs.declared.lines.Line.the-variants.{Vertex, Edge, Illegal}
-use Rattle.text.specs.Bytes.{lineFeed, comma, hyphen, letterL, letterM, parted, isOnly, numberOf}
+use Rattle.text.specs.Bytes.{lineFeed, letterL, letterM, parted}
+use Rattle.text.specs.Fields.{hyphenMark, value, isNumber, isOptional, letteredOf}
 
-abbrev pub lineIf : Bool → Line → Line
-lineIf true x = x
-lineIf false x = Illegal
+-- "a start cost of `-`"
+abbrev pub costOf : ℕ → InitialCost
+costOf v = cond (eqb v hyphenMark) Absent (Cost v)
 
--- a vertex line's number, whether its initial cost is `-`, and that cost as a number
-abbrev pub vertexBy : Number → Bool → Number → Line
-vertexBy field.Illegal b c = Illegal
-vertexBy (field.Of n) true c = Vertex n Absent
-vertexBy (field.Of n) false field.Illegal = Illegal
-vertexBy (field.Of n) false (field.Of c) = Vertex n (Cost c)
+-- "`M,number,start cost`"
+abbrev pub vertexOf : Fields → Line
+vertexOf f = cond (allb (eqb (f .count) 2 ∷ isNumber f 0 ∷ isOptional f 1 ∷ [])) (Vertex (value f 0) (costOf (value f 1))) Illegal
 
-abbrev pub edgeBy : Number → Number → Number → Line
-edgeBy field.Illegal b c = Illegal
-edgeBy (field.Of m) field.Illegal c = Illegal
-edgeBy (field.Of m) (field.Of n) field.Illegal = Illegal
-edgeBy (field.Of m) (field.Of n) (field.Of c) = Edge m n c
+-- "`L,from,to,picks`"
+abbrev pub edgeOf : Fields → Line
+edgeOf f = cond (allb (eqb (f .count) 3 ∷ isNumber f 0 ∷ isNumber f 1 ∷ isNumber f 2 ∷ [])) (Edge (value f 0) (value f 1) (value f 2)) Illegal
 
--- "`M,number,start cost`", "`L,from,to,picks`": three fields or four, the first one letter
-unfoldable pub formOf : List (List ℕ) → Line
-unfolding numberOf
-formOf [] = Illegal
-formOf (t ∷ []) = Illegal
-formOf (t ∷ f ∷ []) = Illegal
-formOf (t ∷ n ∷ c ∷ []) = lineIf (isOnly letterM t) (vertexBy (numberOf n) (isOnly hyphen c) (numberOf c))
-formOf (t ∷ m ∷ n ∷ c ∷ []) = lineIf (isOnly letterL t) (edgeBy (numberOf m) (numberOf n) (numberOf c))
-formOf (t ∷ m ∷ n ∷ c ∷ f ∷ fs) = Illegal
-
--- the same of an edge line whose first end was read: m, and the fields behind it
-abbrev pub edgeFrom : ℕ → List (List ℕ) → Line
-edgeFrom m [] = Illegal
-edgeFrom m (n ∷ []) = Illegal
-edgeFrom m (n ∷ c ∷ []) = edgeBy (field.Of m) (numberOf n) (numberOf c)
-edgeFrom m (n ∷ c ∷ f ∷ fs) = Illegal
+abbrev pub letteredLine : Lettered → Line
+letteredLine x = cond (eqb (x .letter) letterM) (vertexOf (x .fields)) (cond (eqb (x .letter) letterL) (edgeOf (x .fields)) Illegal)
 
 -- a line's bytes, without LF
 unfoldable pub lineOf : List ℕ → Line
-unfolding formOf parted
-lineOf l = formOf (parted comma l)
+unfolding letteredOf
+lineOf l = letteredLine (letteredOf l)
 
 -- "Lines end in LF": what stands past the last LF is no line if it is empty, and else one without LF
 abbrev pub unended : List ℕ → List Line

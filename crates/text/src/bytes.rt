@@ -1,6 +1,6 @@
 // Bytes and numbers.
 ghost use mathlib.Core.Path.{_≡_};
-ghost use Prim.Native.Nat.{_≤_};
+ghost use Prim.Native.Nat.{_≤_, min};
 ghost use lib.ListN.{length};
 ghost use Rattle.text.specs.Bytes.{place, numberOf, digitsFrom};
 
@@ -65,6 +65,25 @@ fn digits(s: &[u8]) -> Number
         i += 1;
     }
     Number::Of(v)
+}
+
+// The number, or the greatest of 32 bits.
+pub fn capped(n: usize) -> u32
+    ensures { λ r. ⌜ r ≡ min 4294967295 n ⌝ }
+{
+    if n < 4294967295 {
+        return n as u32;
+    }
+    4294967295
+}
+
+pub fn least(a: usize, b: usize) -> usize
+    ensures { λ r. ⌜ (r ≡ min a b) × (r ≤ b) ⌝ }
+{
+    if a < b {
+        return a;
+    }
+    b
 }
 
 fn wide(b: u8) -> usize

@@ -31,7 +31,7 @@ pub enum Judged {
 
 impl Counts {
     // The faults of a line below these vertices and edges.
-    pub fn check(self, line: Line) -> Check
+    fn check(self, line: Line) -> Check
         ensures { λ r. ⌜ checkFault r ≡ firstFault (lineFaults self line) ⌝ }
     {
         match line {

@@ -2,4 +2,5 @@
 // defined in specs/; every function answers by an equation with a definition there.
 pub mod bytes;
 pub mod counts;
+pub mod fields;
 pub mod lines;

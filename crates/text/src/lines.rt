@@ -1,11 +1,10 @@
 // The two kinds of line.
-use crate::bytes::Number;
-use crate::bytes::find;
-use crate::bytes::read_number;
+use crate::fields::Fields;
+use crate::fields::HYPHEN;
+use crate::fields::MAX_NUMBER;
+use crate::fields::read_lettered;
 ghost use mathlib.Core.Path.{_≡_};
-ghost use mathlib.Core.List.{_∷_, []};
-ghost use Rattle.text.specs.Bytes.{comma, hyphen, letterL, letterM, parted, isOnly};
-ghost use Rattle.text.specs.Lines.{lineOf, formOf, edgeFrom};
+ghost use Rattle.text.specs.Lines.{costOf, vertexOf, edgeOf, lineOf};
 
 pub enum InitialCost {
     Absent,
@@ -22,89 +21,65 @@ pub enum Line {
 pub fn read_line(s: &[u8]) -> Line
     ensures { λ r. ⌜ r ≡ lineOf (now (s .entry)) ⌝ }
 {
-    if find(s, b',') != 1 {
-        return Line::Illegal;
-    }
-    if s.len() == 1 {
-        return Line::Illegal;
-    }
-    let letter = s[0];
-    let fields = &s[2..];
-    if letter == b'M' {
+    let line = read_lettered(s);
+    let fields = line.fields;
+    if line.letter == b'M' {
         return vertex_line(fields);
     }
-    if letter == b'L' {
+    if line.letter == b'L' {
         return edge_line(fields);
     }
     Line::Illegal
 }
 
-// The fields behind `M,`.
-fn vertex_line(s: &[u8]) -> Line
-    ensures { λ r. ⌜ r ≡ formOf ((letterM ∷ []) ∷ parted comma (now (s .entry))) ⌝ }
+// The fields behind `M`.
+fn vertex_line(f: Fields) -> Line
+    ensures { λ r. ⌜ r ≡ vertexOf f ⌝ }
 {
-    let k = find(s, b',');
-    if k == s.len() {
+    let number = f.values[0];
+    let initial = f.values[1];
+    if f.count != 2 {
         return Line::Illegal;
     }
-    let Number::Of(n) = read_number(&s[0..k]) else {
+    if MAX_NUMBER < number {
         return Line::Illegal;
-    };
-    let past = k + 1;
-    let initial = &s[past..];
-    if is_hyphen(initial) {
-        return Line::Vertex {
-            number: n,
-            initial: InitialCost::Absent,
-        };
     }
-    let Number::Of(c) = read_number(initial) else {
+    if HYPHEN < initial {
         return Line::Illegal;
-    };
+    }
     Line::Vertex {
-        number: n,
-        initial: InitialCost::Cost(c),
+        number,
+        initial: initial_cost(initial),
     }
 }
 
-fn is_hyphen(s: &[u8]) -> bool
-    ensures { λ r. ⌜ r ≡ isOnly hyphen (now (s .entry)) ⌝ }
+fn initial_cost(value: usize) -> InitialCost
+    ensures { λ r. ⌜ r ≡ costOf value ⌝ }
 {
-    if s.len() == 1 {
-        return s[0] == b'-';
+    if value == HYPHEN {
+        return InitialCost::Absent;
     }
-    false
+    InitialCost::Cost(value)
 }
 
-// The fields behind `L,`.
-fn edge_line(s: &[u8]) -> Line
-    ensures { λ r. ⌜ r ≡ formOf ((letterL ∷ []) ∷ parted comma (now (s .entry))) ⌝ }
+// The fields behind `L`.
+fn edge_line(f: Fields) -> Line
+    ensures { λ r. ⌜ r ≡ edgeOf f ⌝ }
 {
-    let k = find(s, b',');
-    if k == s.len() {
+    let from = f.values[0];
+    let to = f.values[1];
+    let cost = f.values[2];
+    if f.count != 3 {
         return Line::Illegal;
     }
-    let Number::Of(from) = read_number(&s[0..k]) else {
-        return Line::Illegal;
-    };
-    let past = k + 1;
-    edge_from(from, &s[past..])
-}
-
-// The fields behind a legal first end.
-fn edge_from(from: usize, s: &[u8]) -> Line
-    ensures { λ r. ⌜ r ≡ edgeFrom from (parted comma (now (s .entry))) ⌝ }
-{
-    let k = find(s, b',');
-    if k == s.len() {
+    if MAX_NUMBER < from {
         return Line::Illegal;
     }
-    let Number::Of(to) = read_number(&s[0..k]) else {
+    if MAX_NUMBER < to {
         return Line::Illegal;
-    };
-    let past = k + 1;
-    let Number::Of(cost) = read_number(&s[past..]) else {
+    }
+    if MAX_NUMBER < cost {
         return Line::Illegal;
-    };
+    }
     Line::Edge { from, to, cost }
 }

@@ -10,16 +10,15 @@ use native.Mathlib.Numerals.{add-one}
 use lib.ListN.{length, getD, set, take, drop, length-set}
 use lib.Seq.{getD-set-same, getD-set-other, take-set-lt, take-set-le, drop-set-add}
 use Rattle.model.specs.Lists.{numbers, those, mem}
-use Rattle.model.specs.Tree.{Node, evaluation, close, closedAt}
-use Rattle.layout.specs.Layout.{nodesAt, nodeAt, queueAt, closedWordsAt, part}
+use Rattle.model.specs.Tree.{evaluationOf, evaluation, close, closedAt}
+use Rattle.layout.specs.Layout.{queueAt, closedWordsAt, part, queuedIn, usedIn, startAt, queueWordIn, closedWordIn, NodeFits}
 use Rattle.layout.specs.Read.{nodesIn, treeIn}
-use Rattle.layout.proofs.Trees.{tree-node, tree-closed}
+use Rattle.layout.proofs.Trees.{nodes-same, tree-node, tree-closed}
 use Rattle.queue.specs.Queue.{evaluationIn, rank}
 use Rattle.queue.proofs.Times.{times-ext}
-use Rattle.queue.proofs.Keys.{rank-ext}
+use Rattle.queue.proofs.Keys.{rank-ext, node-evaluation}
 use Rattle.tree.specs.declared.partial_keyed_closed_set.ClosedStatus.the-variants.{Open, Closed}
 use Rattle.tree.specs.Tree.{treeOf, Formed, HasVertex, statusOf, CanClose, Closes}
-use Rattle.tree.proofs.Same.{nodes-same}
 
 -- ---- a closed word; the words start at place a
 
@@ -49,17 +48,17 @@ closer-word (suc n) k e = ap suc cc
 
 -- ---- the node that closed a vertex; nodes and queue words are within the words
 
-pub closer-used : {l k : ℕ} {t : List ℕ} (v : ℕ) → Formed l t → HasVertex l t v → closedAt (treeOf l t .closed) v ≡ suc k → k < getD t 1 0
+pub closer-used : {l k : ℕ} {t : List ℕ} (v : ℕ) → Formed l t → HasVertex l t v → closedAt (treeOf l t .closed) v ≡ suc k → k < usedIn t
 closer-used {l} {k} {t} v f h e = omega (arith, e, closed-word l t v (closedWordsAt l) h refl, f .closers v h)
 
-pub node-fits : {l k : ℕ} {t : List ℕ} → Formed l t → k < getD t 1 0 → nodeAt k + 4 ≤ length t
+pub node-fits : {l k : ℕ} {t : List ℕ} → Formed l t → k < usedIn t → NodeFits (length t) k
 node-fits f h = omega (arith, f .used, f .fits)
 
-pub queue-fits : {l : ℕ} {t : List ℕ} → Formed l t → queueAt l + getD t 2 0 ≤ length t
+pub queue-fits : {l : ℕ} {t : List ℕ} → Formed l t → queueAt l + queuedIn t ≤ length t
 queue-fits f = omega (arith, f .queued, f .used, f .fits)
 
-pub node-cost : (m l : ℕ) (t : List ℕ) (k : ℕ) → k < getD t 1 0 → evaluation (treeIn m l t .nodes) k ≡ evaluationIn t k
-node-cost m l t k h = ap (λ (x : Node). x .cost) (tree-node m l t k h)
+pub node-cost : (m l : ℕ) (t : List ℕ) (k : ℕ) → k < usedIn t → evaluation (treeIn m l t .nodes) k ≡ evaluationIn t k
+node-cost m l t k h = ap evaluationOf (tree-node m l t k h) ∙ node-evaluation t k
 
 -- ---- closing a vertex
 
@@ -70,23 +69,23 @@ module _ {l : ℕ} {s : List ℕ} {v n : ℕ} (c : CanClose l s v n) where
   same : (i : ℕ) → i < closedWordsAt l → getD closing i 0 ≡ getD s i 0
   same i h = getD-set-other s (closedWordsAt l + v) i (n + 1) 0 (omega arith)
 
-  used : getD closing 1 0 ≡ getD s 1 0
+  used : usedIn closing ≡ usedIn s
   used = same 1 (omega arith)
 
-  queued : getD closing 2 0 ≡ getD s 2 0
+  queued : queuedIn closing ≡ queuedIn s
   queued = same 2 (omega arith)
 
-  within : queueAt l + getD s 2 0 ≤ closedWordsAt l
+  within : queueAt l + queuedIn s ≤ closedWordsAt l
   within = omega (arith, c .formed .used, c .formed .queued)
 
-  queue-word : (i : ℕ) → i < getD s 2 0 → getD closing (queueAt l + i) 0 ≡ getD s (queueAt l + i) 0
+  queue-word : (i : ℕ) → i < queuedIn s → queueWordIn l closing i ≡ queueWordIn l s i
   queue-word i h = same (queueAt l + i) (omega (arith, within))
 
-  same-rank : (i : ℕ) → i < getD s 2 0 → rank closing (queueAt l) i ≡ rank s (queueAt l) i
+  same-rank : (i : ℕ) → i < queuedIn s → rank closing (queueAt l) i ≡ rank s (queueAt l) i
   same-rank i h =
       rank-ext s closing (queueAt l) i i (omega (arith, c .formed .used, c .formed .nodes i h)) (λ p b _. same p (omega arith)) (queue-word i h)
 
-  closers : (u : ℕ) → closedWordsAt l + u < length closing → getD closing (closedWordsAt l + u) 0 ≤ getD closing 1 0
+  closers : (u : ℕ) → closedWordsAt l + u < length closing → closedWordIn l closing u ≤ usedIn closing
   closers u h = elim (ℕ-discrete u v) [
     | yes e ↦ rw e (omega (arith, used, c .node, getD-set-same s (closedWordsAt l + v) (n + 1) 0 (c .vertex)))
     | no ne ↦ omega (
@@ -105,10 +104,10 @@ module _ {l : ℕ} {s : List ℕ} {v n : ℕ} (c : CanClose l s v n) where
     vertices = simp length-set (f .vertices);
     used = omega (arith, used, f .used);
     queued = omega (arith, used, queued, f .queued);
-    nodes = λ i h. let b : i < getD s 2 0 = omega (arith, queued) in omega (arith, used, queue-word i b, f .nodes i b);
-    once = λ x. rw (queued, times-ext s closing (queueAt l) (getD s 2 0) x queue-word) (f .once x);
+    nodes = λ i h. let b : i < queuedIn s = omega (arith, queued) in omega (arith, used, queue-word i b, f .nodes i b);
+    once = λ x. rw (queued, times-ext s closing (queueAt l) (queuedIn s) x queue-word) (f .once x);
     heap = λ i i0 h.
-        let b : i < getD s 2 0 = omega (arith, queued) in
+        let b : i < queuedIn s = omega (arith, queued) in
         omega (arith, f .heap i i0 b, same-rank i b, same-rank ((i - 1) / 2) (omega arith));
     closers = closers;
     spare-nodes = λ i low high. same i (omega arith) ∙ f .spare-nodes i (omega (arith, used)) high;
@@ -118,24 +117,24 @@ module _ {l : ℕ} {s : List ℕ} {v n : ℕ} (c : CanClose l s v n) where
   close-tree : treeOf l closing ≡ close (treeOf l s) v n
   unfolding treeIn close
   close-tree = λ i. record {
-    start = same 0 (omega arith) i;
+    start = same startAt (omega arith) i;
     nodes = nodes i;
     waiting = those (λ k. mem k (queue i)) (numbers (used i));
     closed = closed i;
   }
     where
-      nodes : nodesIn (getD closing 1 0) (drop nodesAt closing) ≡ nodesIn (getD s 1 0) (drop nodesAt s)
+      nodes : nodesIn (usedIn closing) closing ≡ nodesIn (usedIn s) s
       nodes =
-          ap (λ (k : ℕ). nodesIn k (drop nodesAt closing)) used
-          ∙ nodes-same (getD s 1 0) s closing (λ p _ h. same p (omega (arith, c .formed .used)))
+          ap (λ (k : ℕ). nodesIn k closing) used
+          ∙ nodes-same (usedIn s) s closing (λ p _ h. same p (omega (arith, c .formed .used)))
 
-      queue : part (queueAt l) (getD closing 2 0) closing ≡ part (queueAt l) (getD s 2 0) s
+      queue : part (queueAt l) (queuedIn closing) closing ≡ part (queueAt l) (queuedIn s) s
       queue =
           let at : closedWordsAt l + v ≡ queueAt l + (1 + l + v) = omega arith in
           ap (λ (k : ℕ). part (queueAt l) k closing) queued
-          ∙ ap (λ (k : ℕ). part (queueAt l) (getD s 2 0) (set s k (n + 1))) at
-          ∙ ap (take (getD s 2 0)) (drop-set-add (queueAt l) s (1 + l + v) (n + 1))
-          ∙ take-set-le (getD s 2 0) (drop (queueAt l) s) (1 + l + v) (n + 1) (omega (arith, within))
+          ∙ ap (λ (k : ℕ). part (queueAt l) (queuedIn s) (set s k (n + 1))) at
+          ∙ ap (take (queuedIn s)) (drop-set-add (queueAt l) s (1 + l + v) (n + 1))
+          ∙ take-set-le (queuedIn s) (drop (queueAt l) s) (1 + l + v) (n + 1) (omega (arith, within))
 
       closed : part (closedWordsAt l) (length closing - closedWordsAt l) closing ≡ set (part (closedWordsAt l) (length s - closedWordsAt l) s) v (suc n)
       closed =

@@ -15,11 +15,11 @@ use Rattle.layout.specs.Layout.{closedWordsAt}
 use Rattle.layout.specs.Read.{treeIn}
 use Rattle.tree.specs.Tree.{treeOf, Formed}
 
--- k of the closed words before place p are not 0
+-- k of the closed words before place p are 0
 pub record Counted (l : ℕ) (t : List ℕ) (k p : ℕ) : Type 0 where
-  pub few : k ≤ p
+  pub few : closedWordsAt l + k ≤ p
   pub within : p ≤ length t
-  pub count : k + closedCount (drop p t) ≡ closedCount (treeOf l t .closed)
+  pub count : p + closedCount (drop p t) ≡ closedWordsAt l + k + closedCount (treeOf l t .closed)
 
 pub counted-none : {l p : ℕ} {t : List ℕ} → Formed l t → p ≡ closedWordsAt l → Counted l t 0 p
 unfolding treeIn
@@ -45,12 +45,12 @@ module _ (t : List ℕ) (p : ℕ) (h : p < length t) where
   open-next z = next ∙ rw (eq-eqb (getD t p 0) 0 z)
 
 module _ {l k p : ℕ} {t : List ℕ} (c : Counted l t k p) (h : p < length t) where
-  pub counted-closed : {n : ℕ} → getD t p 0 ≢ 0 → n ≡ k + 1 → Counted l t n (p + 1)
+  pub counted-closed : {n : ℕ} → getD t p 0 ≢ 0 → n ≡ k → Counted l t n (p + 1)
   counted-closed ne e = record { few = omega arith; within = omega arith; count = omega (arith, closed-next t p h ne) }
 
-  pub counted-open : {n : ℕ} → getD t p 0 ≡ 0 → n ≡ k → Counted l t n (p + 1)
+  pub counted-open : {n : ℕ} → getD t p 0 ≡ 0 → n ≡ k + 1 → Counted l t n (p + 1)
   counted-open z e = record { few = omega arith; within = omega arith; count = omega (arith, open-next t p h z) }
 
-pub counted-all : {l k p : ℕ} {t : List ℕ} → Counted l t k p → length t ≤ p → k ≡ closedCount (treeOf l t .closed)
+pub counted-all : {l k p : ℕ} {t : List ℕ} → Counted l t k p → length t ≤ p → length t - closedWordsAt l - k ≡ closedCount (treeOf l t .closed)
 unfolding closedCount
 counted-all {l} {k} {p} {t} c h = omega (arith, c .count, ap closedCount (drop-of-length-le t h))

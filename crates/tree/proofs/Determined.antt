@@ -3,14 +3,14 @@
 use mathlib.Core.Path.{_≡_, sym, ap, _∙_, subst}
 use mathlib.Core.Logic.{_⊎_, inl, inr, _≢_}
 use mathlib.Core.List.{List, List·Memᴰ}
-use Prim.Native.Nat.{ℕ, _+_, _-_, _/_, _<_, _≤_}
+use Prim.Native.Nat.{ℕ, _+_, _-_, _<_, _≤_}
 use native.Mathlib.Omega.{arith}
-use native.Mathlib.Decide.{ℕ-discrete, decLt}
+use native.Mathlib.Decide.{decLt}
 use lib.ListN.{length, getD, List·getD-eq-default}
 use Rattle.model.specs.Tree.{Node, Tree, node, closedAt, popped}
-use Rattle.layout.specs.Layout.{nodeAt, queueAt, closedWordsAt}
-use Rattle.layout.specs.Read.{treeIn}
-use Rattle.layout.proofs.Trees.{nodeIn, tree-nodes, tree-node, tree-closed}
+use Rattle.layout.specs.Layout.{queuedAt, queuedIn, startIn, usedIn, nodesAt, nodeAt, queueAt, closedWordsAt, closedWordIn}
+use Rattle.layout.specs.Read.{nodeIn, treeIn}
+use Rattle.layout.proofs.Trees.{node-of, node-words, header-words, tree-nodes, tree-node, tree-closed}
 use Rattle.tree.specs.Tree.{treeOf, Formed, Pops}
 use Rattle.tree.proofs.Form.{waiting-length}
 use Rattle.tree.proofs.Waiting.{waits, waiting-mem, waiting-has, waits-node}
@@ -20,35 +20,22 @@ module _ (l : ℕ) (s t : List ℕ) (f : Formed l s) (g : Formed l t) (len : len
   at : (i j : ℕ) → i ≡ j → getD s j 0 ≡ getD t j 0 → getD s i 0 ≡ getD t i 0
   at i j e h = rw e h
 
-  start-kept : treeOf l s .start ≡ treeOf l t .start → getD s 0 0 ≡ getD t 0 0
+  start-kept : treeOf l s .start ≡ treeOf l t .start → startIn s ≡ startIn t
   unfolding treeIn
   start-kept e = e
 
   -- ---- the nodes give nodes used and the words of all nodes, used or not
 
   module _ (same : treeOf l s .nodes ≡ treeOf l t .nodes) where
-    used-kept : getD s 1 0 ≡ getD t 1 0
+    used-kept : usedIn s ≡ usedIn t
     used-kept = sym (tree-nodes _ l s) ∙ ap (λ (x : List Node). length x) same ∙ tree-nodes _ l t
 
-    nodes : (k : ℕ) → k < getD s 1 0 → nodeIn s (nodeAt k) ≡ nodeIn t (nodeAt k)
+    nodes : (k : ℕ) → k < usedIn s → nodeIn s k ≡ nodeIn t k
     nodes k h = sym (tree-node _ l s k h) ∙ ap (λ (x : List Node). node x k) same ∙ tree-node _ l t k (omega (arith, used-kept))
 
-    -- a word of node k
-    in-node : (i k : ℕ) → k < getD s 1 0 → nodeAt k ≤ i → i < nodeAt k + 4 → getD s i 0 ≡ getD t i 0
-    in-node i k h low high = elim (ℕ-discrete i (nodeAt k)) [
-      | yes e ↦ at i (nodeAt k) e (ap (λ (x : Node). x .vertex) (nodes k h))
-      | no n0 ↦ elim (ℕ-discrete i (nodeAt k + 1)) [
-        | yes e ↦ at i (nodeAt k + 1) e (ap (λ (x : Node). x .cost) (nodes k h))
-        | no n1 ↦ elim (ℕ-discrete i (nodeAt k + 2)) [
-          | yes e ↦ at i (nodeAt k + 2) e (ap (λ (x : Node). x .parent) (nodes k h))
-          | no n2 ↦ at i (nodeAt k + 3) (omega arith) (ap (λ (x : Node). x .edge) (nodes k h))
-        ]
-      ]
-    ]
-
-    nodes-kept : (i : ℕ) → 3 ≤ i → i < queueAt l → getD s i 0 ≡ getD t i 0
-    nodes-kept i low h = elim (decLt i (nodeAt (getD s 1 0))) [
-      | yes y ↦ in-node i ((i - 3) / 4) (omega arith) (omega arith) (omega arith)
+    nodes-kept : (i : ℕ) → nodesAt ≤ i → i < queueAt l → getD s i 0 ≡ getD t i 0
+    nodes-kept i low h = elim (decLt i (nodeAt (usedIn s))) [
+      | yes y ↦ let o = node-of i low in node-words s t (o .0) i (o .1 .0) (o .1 .1) (nodes (o .0) (omega (arith, o .1 .0)))
       | no n ↦ f .spare-nodes i (omega arith) h ∙ sym (g .spare-nodes i (omega (arith, used-kept)) h)
     ]
 
@@ -60,7 +47,7 @@ module _ (l : ℕ) (s t : List ℕ) (f : Formed l s) (g : Formed l t) (len : len
     | no m ↦ List·getD-eq-default s 0 (omega arith) ∙ sym (List·getD-eq-default t 0 (omega (arith, len)))
   ]
     where
-      word : (v : ℕ) → closedWordsAt l + v < length s → getD s (closedWordsAt l + v) 0 ≡ getD t (closedWordsAt l + v) 0
+      word : (v : ℕ) → closedWordsAt l + v < length s → closedWordIn l s v ≡ closedWordIn l t v
       word v h =
           sym (tree-closed (length s - closedWordsAt l) l s v (omega arith))
           ∙ ap (λ (x : List ℕ). closedAt x v) same
@@ -69,10 +56,10 @@ module _ (l : ℕ) (s t : List ℕ) (f : Formed l s) (g : Formed l t) (len : len
   -- ---- the waiting nodes give the queue's length and, of each node, whether it stands in the queue
 
   module _ (same : treeOf l s .waiting ≡ treeOf l t .waiting) where
-    waiting : (u : List ℕ) → Formed l u → length (treeOf l u .waiting) ≡ getD u 2 0
+    waiting : (u : List ℕ) → Formed l u → length (treeOf l u .waiting) ≡ queuedIn u
     waiting u h = waiting-length l u (queue-fits h) (h .nodes) (h .once)
 
-    queued-kept : getD s 2 0 ≡ getD t 2 0
+    queued-kept : queuedIn s ≡ queuedIn t
     queued-kept = sym (waiting s f) ∙ ap (λ (x : List ℕ). length x) same ∙ waiting t g
 
     -- so only the arrangement of the queue words is open
@@ -92,16 +79,13 @@ module _ (l : ℕ) (s t : List ℕ) (f : Formed l s) (g : Formed l t) (len : len
     of-nodes : treeOf l s .nodes ≡ treeOf l t .nodes
     of-nodes = ap (λ (x : Tree). x .nodes) same
 
-    queued : getD s 2 0 ≡ getD t 2 0
+    queued : queuedIn s ≡ queuedIn t
     queued = queued-kept (ap (λ (x : Tree). x .waiting) same)
 
-    pub words-determined : (i : ℕ) → (i < queueAt l) ⊎ (queueAt l + getD s 2 0 ≤ i) → getD s i 0 ≡ getD t i 0
-    words-determined i (inl h) = elim (decLt i 3) [
+    pub words-determined : (i : ℕ) → (i < queueAt l) ⊎ (queueAt l + queuedIn s ≤ i) → getD s i 0 ≡ getD t i 0
+    words-determined i (inl h) = elim (decLt i nodesAt) [
       | no n ↦ nodes-kept of-nodes i (omega arith) h
-      | yes z ↦ elim (ℕ-discrete i 0) [
-        | yes e ↦ at i 0 e (start-kept (ap (λ (x : Tree). x .start) same))
-        | no n0 ↦ elim (ℕ-discrete i 1) [ yes e ↦ at i 1 e (used-kept of-nodes) | no n1 ↦ at i 2 (omega arith) queued ]
-      ]
+      | yes z ↦ header-words s t (start-kept (ap (λ (x : Tree). x .start) same)) (used-kept of-nodes) i z (λ e. queued)
     ]
     words-determined i (inr h) = elim (decLt i (closedWordsAt l)) [
       | yes y ↦ f .spare-queue i h y ∙ sym (g .spare-queue i (omega (arith, queued)) y)
@@ -110,13 +94,14 @@ module _ (l : ℕ) (s t : List ℕ) (f : Formed l s) (g : Formed l t) (len : len
 
 -- a ticket taken: every word but the queue's length and the queue words is as it was
 pub popped-words : (l : ℕ) (s t : List ℕ) (k m : ℕ) → Formed l s → Pops l s t k m → length s ≡ length t
-    → (i : ℕ) → i ≢ 2 → (i < queueAt l) ⊎ (closedWordsAt l ≤ i) → getD s i 0 ≡ getD t i 0
+    → (i : ℕ) → i ≢ queuedAt → (i < queueAt l) ⊎ (closedWordsAt l ≤ i) → getD s i 0 ≡ getD t i 0
 unfolding popped
-popped-words l s t k m f p len i ne (inl h) = elim (decLt i 3) [
-  | no n ↦ nodes-kept l s t f (p .formed) len (sym (ap (λ (x : Tree). x .nodes) (p .tree))) i (omega arith) h
-  | yes z ↦ elim (ℕ-discrete i 0) [
-    | yes e ↦ at l s t f (p .formed) len i 0 e (start-kept l s t f (p .formed) len (sym (ap (λ (x : Tree). x .start) (p .tree))))
-    | no n0 ↦ at l s t f (p .formed) len i 1 (omega arith) (used-kept l s t f (p .formed) len (sym (ap (λ (x : Tree). x .nodes) (p .tree))))
-  ]
-]
+popped-words l s t k m f p len i ne (inl h) =
+    let nodes = sym (ap (λ (x : Tree). x .nodes) (p .tree)) in
+    elim (decLt i nodesAt) [
+      | no n ↦ nodes-kept l s t f (p .formed) len nodes i (omega arith) h
+      | yes z ↦
+          header-words s t (start-kept l s t f (p .formed) len (sym (ap (λ (x : Tree). x .start) (p .tree)))) (used-kept l s t f (p .formed) len nodes) i z
+          (λ e. absurd (ne e))
+    ]
 popped-words l s t k m f p len i ne (inr h) = closed-kept l s t f (p .formed) len (sym (ap (λ (x : Tree). x .closed) (p .tree))) i h

@@ -8,32 +8,32 @@ use Prim.Native.Nat.{ℕ, zero, suc, _+_, _-_, _/_, _<_, _≤_}
 use native.Mathlib.Omega.{arith}
 use native.Mathlib.Decide.{ℕ-discrete, decLt}
 use lib.Dec.{eqb, ltb}
-use lib.ListN.{length, getD, drop}
+use lib.ListN.{length, getD}
 use borrow.Author.Tests.{ltb-true, ltb-false, leb-true, eqb-true, not-true, lt-ltb, le-ltb, le-leb, eq-eqb, ne-eqb}
 use Rattle.model.specs.Lists.{upFrom, numbers, those, mem, allBelow}
-use Rattle.model.specs.Tree.{Node, evaluation, precedes}
+use Rattle.model.specs.Tree.{evaluationOf, evaluation, precedes}
 use Rattle.model.specs.Sound.{distinctb}
 use Rattle.model.proofs.Lists.{up-mem, up-length, those-none, those-length, those-split}
 use Rattle.model.proofs.Bools.{and-true, or-cases, true-or-left, true-or-right, all-true, true-given, upto-at, at-upto}
-use Rattle.layout.specs.Layout.{nodesAt, nodeAt, queueAt, closedWordsAt}
+use Rattle.layout.specs.Layout.{nodeAt, queueAt, closedWordsAt, queuedIn, usedIn, queueWordIn, closedWordIn}
 use Rattle.layout.specs.Read.{nodesIn, treeIn}
 use Rattle.layout.specs.Sound.{queueIn, heapb, queueTests, spareTests, formTests, formedb}
 use Rattle.layout.proofs.Places.{part-at, part-length}
 use Rattle.layout.proofs.Trees.{node-at}
 use Rattle.queue.specs.Queue.{evaluationIn, key, rank, times, Heap}
-use Rattle.queue.proofs.Keys.{key-less, key-more, key-tie}
+use Rattle.queue.proofs.Keys.{key-less, key-more, key-tie, node-evaluation}
 use Rattle.tree.specs.Tree.{treeOf, Formed}
 use Rattle.tree.proofs.Parts.{zeros-at, at-zeros, below-at, at-below, times-once, once-distinct}
 use Rattle.tree.proofs.Closed.{queue-fits}
 
 -- ---- the queue's order
 
-pub precedes-key : (t : List ℕ) (a b : ℕ) → getD t 1 0 ≤ 4294967295 → a < getD t 1 0 → b < getD t 1 0
-    → precedes (nodesIn (getD t 1 0) (drop nodesAt t)) a b ≡ ltb (key t a) (key t b)
+pub precedes-key : (t : List ℕ) (a b : ℕ) → usedIn t ≤ 4294967295 → a < usedIn t → b < usedIn t
+    → precedes (nodesIn (usedIn t) t) a b ≡ ltb (key t a) (key t b)
 precedes-key t a b few ha hb = go _ _ (cost a ha) (cost b hb)
   where
-    cost : (k : ℕ) → k < getD t 1 0 → evaluation (nodesIn (getD t 1 0) (drop nodesAt t)) k ≡ evaluationIn t k
-    cost k h = ap (λ (x : Node). x .cost) (node-at (getD t 1 0) t k h)
+    cost : (k : ℕ) → k < usedIn t → evaluation (nodesIn (usedIn t) t) k ≡ evaluationIn t k
+    cost k h = ap evaluationOf (node-at (usedIn t) t k h) ∙ node-evaluation t k
 
     go : (x y : ℕ) → x ≡ evaluationIn t a → y ≡ evaluationIn t b → (ltb x y || (eqb x y && ltb a b)) ≡ ltb (key t a) (key t b)
     go x y ex ey = elim (decLt x y) [
@@ -45,27 +45,27 @@ precedes-key t a b few ha hb = go _ _ (cost a ha) (cost b hb)
     ]
 
 -- heap order
-module _ (l : ℕ) (t : List ℕ) (fits : queueAt l + getD t 2 0 ≤ length t) (few : getD t 1 0 ≤ 4294967295)
-    (below : (i : ℕ) → i < getD t 2 0 → getD t (queueAt l + i) 0 < getD t 1 0) where
-  all : length (queueIn l t) ≡ getD t 2 0
-  all = part-length (queueAt l) (getD t 2 0) t fits
+module _ (l : ℕ) (t : List ℕ) (fits : queueAt l + queuedIn t ≤ length t) (few : usedIn t ≤ 4294967295)
+    (below : (i : ℕ) → i < queuedIn t → queueWordIn l t i < usedIn t) where
+  all : length (queueIn l t) ≡ queuedIn t
+  all = part-length (queueAt l) (queuedIn t) t fits
 
-  ranks : (i j : ℕ) → i < getD t 2 0 → j < getD t 2 0
-      → precedes (nodesIn (getD t 1 0) (drop nodesAt t)) (getD (queueIn l t) i 0) (getD (queueIn l t) j 0) ≡ ltb (rank t (queueAt l) i) (rank t (queueAt l) j)
+  ranks : (i j : ℕ) → i < queuedIn t → j < queuedIn t
+      → precedes (nodesIn (usedIn t) t) (getD (queueIn l t) i 0) (getD (queueIn l t) j 0) ≡ ltb (rank t (queueAt l) i) (rank t (queueAt l) j)
   unfolding rank
   ranks i j h k =
-      ap₂ (precedes (nodesIn (getD t 1 0) (drop nodesAt t))) (part-at (queueAt l) (getD t 2 0) t i h) (part-at (queueAt l) (getD t 2 0) t j k)
+      ap₂ (precedes (nodesIn (usedIn t) t)) (part-at (queueAt l) (queuedIn t) t i h) (part-at (queueAt l) (queuedIn t) t j k)
       ∙ precedes-key t _ _ few (below i h) (below j k)
 
-  pub heap-at : heapb (nodesIn (getD t 1 0) (drop nodesAt t)) (queueIn l t) ≡ true → Heap (rank t (queueAt l)) (getD t 2 0)
+  pub heap-at : heapb (nodesIn (usedIn t) t) (queueIn l t) ≡ true → Heap (rank t (queueAt l)) (queuedIn t)
   heap-at e i pos h = elim (or-cases (eqb i 0) _ (upto-at _ (length (queueIn l t)) e i (omega (arith, all)))) [
     | inl z ↦ absurd (omega (arith, eqb-true i 0 z))
     | inr z ↦ ltb-false _ _ (sym (ranks i ((i - 1) / 2) h (omega arith)) ∙ not-true _ z)
   ]
 
-  at-heap : Heap (rank t (queueAt l)) (getD t 2 0) → heapb (nodesIn (getD t 1 0) (drop nodesAt t)) (queueIn l t) ≡ true
+  at-heap : Heap (rank t (queueAt l)) (queuedIn t) → heapb (nodesIn (usedIn t) t) (queueIn l t) ≡ true
   at-heap heap = at-upto _ (length (queueIn l t)) (λ i h.
-      let k : i < getD t 2 0 = omega (arith, all) in
+      let k : i < queuedIn t = omega (arith, all) in
       elim (ℕ-discrete i 0) [
         | yes z ↦ true-or-left (eqb i 0) _ (eq-eqb i 0 z)
         | no z ↦ true-or-right (eqb i 0) _ (ap not (ranks i ((i - 1) / 2) k (omega arith) ∙ le-ltb _ _ (heap i (omega arith) k)))
@@ -100,33 +100,33 @@ listed-length u (x ∷ xs) b d =
       listed-length u xs (low .1) (new .1),
     )
 
-module _ (l : ℕ) (t : List ℕ) (fits : queueAt l + getD t 2 0 ≤ length t)
-    (below : (i : ℕ) → i < getD t 2 0 → getD t (queueAt l + i) 0 < getD t 1 0) (once : (x : ℕ) → times t (queueAt l) (getD t 2 0) x ≤ 1) where
-  pub waiting-length : length (treeOf l t .waiting) ≡ getD t 2 0
+module _ (l : ℕ) (t : List ℕ) (fits : queueAt l + queuedIn t ≤ length t)
+    (below : (i : ℕ) → i < queuedIn t → queueWordIn l t i < usedIn t) (once : (x : ℕ) → times t (queueAt l) (queuedIn t) x ≤ 1) where
+  pub waiting-length : length (treeOf l t .waiting) ≡ queuedIn t
   unfolding treeIn
   waiting-length =
-      listed-length (getD t 1 0) (queueIn l t) (at-below t (queueAt l) (getD t 2 0) (getD t 1 0) fits below) (once-distinct t (queueAt l) (getD t 2 0) fits once)
-      ∙ part-length (queueAt l) (getD t 2 0) t fits
+      listed-length (usedIn t) (queueIn l t) (at-below t (queueAt l) (queuedIn t) (usedIn t) fits below) (once-distinct t (queueAt l) (queuedIn t) fits once)
+      ∙ part-length (queueAt l) (queuedIn t) t fits
 
   -- no more nodes wait than there are
-  waiting-fit : getD t 2 0 ≤ getD t 1 0
+  waiting-fit : queuedIn t ≤ usedIn t
   unfolding treeIn
-  waiting-fit = omega (arith, waiting-length, those-length (λ n. mem n (queueIn l t)) (numbers (getD t 1 0)), up-length (getD t 1 0) 0)
+  waiting-fit = omega (arith, waiting-length, those-length (λ n. mem n (queueIn l t)) (numbers (usedIn t)), up-length (usedIn t) 0)
 
 -- ---- the whole
 
 pub formed-at : (l : ℕ) (t : List ℕ) → l ≤ 2048 → closedWordsAt l ≤ length t → length t ≤ closedWordsAt l + 1024
-    → ((v : ℕ) → closedWordsAt l + v < length t → getD t (closedWordsAt l + v) 0 ≤ getD t 1 0) → formedb l t ≡ true → Formed l t
+    → ((v : ℕ) → closedWordsAt l + v < length t → closedWordIn l t v ≤ usedIn t) → formedb l t ≡ true → Formed l t
 unfolding formedb
 formed-at l t edges fits vertices closers e =
     let r = all-true (formTests l t) e in
-    let queue = all-true (queueTests l t (getD t 2 0)) (r .1 .1 .0) in
+    let queue = all-true (queueTests l t (queuedIn t)) (r .1 .1 .0) in
     let spare = all-true (spareTests l t) (r .1 .1 .1 .0) in
-    let used : getD t 1 0 ≤ 1 + l = leb-true _ _ (r .0) in
-    let room : getD t 2 0 ≤ 1 + l = leb-true _ _ (r .1 .0) in
-    let fit : queueAt l + getD t 2 0 ≤ length t = omega arith in
-    let below : (i : ℕ) → i < getD t 2 0 → getD t (queueAt l + i) 0 < getD t 1 0 = below-at t (queueAt l) (getD t 2 0) (getD t 1 0) fit (queue .0) in
-    let once : (x : ℕ) → times t (queueAt l) (getD t 2 0) x ≤ 1 = times-once t (queueAt l) (getD t 2 0) fit (queue .1 .0) in
+    let used : usedIn t ≤ 1 + l = leb-true _ _ (r .0) in
+    let room : queuedIn t ≤ 1 + l = leb-true _ _ (r .1 .0) in
+    let fit : queueAt l + queuedIn t ≤ length t = omega arith in
+    let below : (i : ℕ) → i < queuedIn t → queueWordIn l t i < usedIn t = below-at t (queueAt l) (queuedIn t) (usedIn t) fit (queue .0) in
+    let once : (x : ℕ) → times t (queueAt l) (queuedIn t) x ≤ 1 = times-once t (queueAt l) (queuedIn t) fit (queue .1 .0) in
     record {
       edges = edges;
       fits = fits;
@@ -137,21 +137,21 @@ formed-at l t edges fits vertices closers e =
       once = once;
       heap = heap-at l t fit (omega arith) below (queue .1 .1 .0);
       closers = closers;
-      spare-nodes = zeros-at t (nodeAt (getD t 1 0)) (queueAt l) (spare .0);
-      spare-queue = zeros-at t (queueAt l + getD t 2 0) (closedWordsAt l) (spare .1 .0);
+      spare-nodes = zeros-at t (nodeAt (usedIn t)) (queueAt l) (spare .0);
+      spare-queue = zeros-at t (queueAt l + queuedIn t) (closedWordsAt l) (spare .1 .0);
     }
 
 pub at-formed : (l : ℕ) (t : List ℕ) → Formed l t → formedb l t ≡ true
 unfolding formedb
 at-formed l t f =
-    let fit : queueAt l + getD t 2 0 ≤ length t = queue-fits f in
+    let fit : queueAt l + queuedIn t ≤ length t = queue-fits f in
     true-given (formTests l t)
     (le-leb _ _ (f .used))
-    (le-leb (getD t 2 0) (1 + l) (omega (arith, f .queued, f .used)))
-    (true-given (queueTests l t (getD t 2 0))
-    (at-below t (queueAt l) (getD t 2 0) (getD t 1 0) fit (f .nodes))
-    (once-distinct t (queueAt l) (getD t 2 0) fit (f .once))
+    (le-leb (queuedIn t) (1 + l) (omega (arith, f .queued, f .used)))
+    (true-given (queueTests l t (queuedIn t))
+    (at-below t (queueAt l) (queuedIn t) (usedIn t) fit (f .nodes))
+    (once-distinct t (queueAt l) (queuedIn t) fit (f .once))
     (at-heap l t fit (omega (arith, f .used, f .edges)) (f .nodes) (f .heap)))
     (true-given (spareTests l t)
-    (at-zeros t (nodeAt (getD t 1 0)) (queueAt l) (f .spare-nodes))
-    (at-zeros t (queueAt l + getD t 2 0) (closedWordsAt l) (f .spare-queue)))
+    (at-zeros t (nodeAt (usedIn t)) (queueAt l) (f .spare-nodes))
+    (at-zeros t (queueAt l + queuedIn t) (closedWordsAt l) (f .spare-queue)))

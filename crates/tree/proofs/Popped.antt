@@ -7,17 +7,18 @@ use mathlib.Core.List.{List, [], _∷_, List·Memᴰ, List·Memᴰ·head, List·
 use Prim.Native.Nat.{ℕ, _+_, _<_, _≤_}
 use native.Mathlib.Omega.{arith}
 use native.Mathlib.Decide.{ℕ-discrete, decLt}
-use lib.ListN.{getD, drop}
+use lib.ListN.{getD}
 use Rattle.model.specs.Tree.{Node, evaluation, least, leastOf, popped}
 use Rattle.model.proofs.Lists.{Before, before-one, Least, least-is}
-use Rattle.layout.specs.Layout.{nodesAt, queueAt, closedWordsAt}
+use Rattle.layout.specs.Layout.{queueAt, closedWordsAt, queuedIn, usedIn, startAt, usedAt, queueWordIn}
+use Rattle.layout.proofs.Trees.{nodes-same}
 use Rattle.layout.specs.Read.{nodesIn, treeIn}
 use Rattle.queue.specs.declared.Popped.{Popped}
 use Rattle.queue.specs.declared.Popped.the-variants.{Ticket, Empty}
 use Rattle.queue.specs.Queue.{evaluationIn, key, rank, one, times, CanPop, Taken, Takes, PoppedIs}
 use Rattle.queue.proofs.Times.{one-same, times-place, place-times}
 use Rattle.tree.specs.Tree.{treeOf, Formed, Pops, PopIs}
-use Rattle.tree.proofs.Same.{nodes-same, closed-same}
+use Rattle.tree.proofs.Same.{closed-same}
 use Rattle.tree.proofs.Waiting.{waits, waiting-mem, waiting-has, waiting-popped, waits-node}
 use Rattle.tree.proofs.Closed.{node-cost, queue-fits}
 
@@ -44,14 +45,14 @@ least-one ns (y ∷ ys) x m f =
     ap some (before-one ns n x nx (f n there))
 
 -- the order of keys is the order of tickets
-key-before : (l : ℕ) (t : List ℕ) (a b : ℕ) → Formed l t → a < getD t 1 0 → b < getD t 1 0 → key t a ≤ key t b → Before (treeOf l t .nodes) a b
+key-before : (l : ℕ) (t : List ℕ) (a b : ℕ) → Formed l t → a < usedIn t → b < usedIn t → key t a ≤ key t b → Before (treeOf l t .nodes) a b
 unfolding key
 key-before l t a b f ha hb h = elim (decLt (evaluationIn t a) (evaluationIn t b)) [
   | yes less ↦ inl (omega (arith, cost a ha, cost b hb))
   | no more ↦ inr (omega (arith, cost a ha, cost b hb))
 ]
   where
-    cost : (k : ℕ) → k < getD t 1 0 → evaluation (treeOf l t .nodes) k ≡ evaluationIn t k
+    cost : (k : ℕ) → k < usedIn t → evaluation (treeOf l t .nodes) k ≡ evaluationIn t k
     cost = node-cost _ l t
 
 -- a waiting node with no lesser key than its own among those that wait is the least
@@ -62,19 +63,19 @@ least-key {l} {t} f k w h =
     (λ j m. let v = waiting-mem l t (queue-fits f) j m in key-before l t k j f (waits-node f k w) (waits-node f j v) (h j v))
 
 -- with no queue word there is none
-pub least-none : (l : ℕ) (s : List ℕ) → Formed l s → getD s 2 0 ≡ 0 → least (treeOf l s .nodes) (treeOf l s .waiting) ≡ none
+pub least-none : (l : ℕ) (s : List ℕ) → Formed l s → queuedIn s ≡ 0 → least (treeOf l s .nodes) (treeOf l s .waiting) ≡ none
 unfolding least
 least-none l s f e = go (treeOf l s .waiting) (waiting-mem l s (queue-fits f))
   where
     go : (q : List ℕ) → ((x : ℕ) → List·Memᴰ x q → 0 < waits l s x) → least (treeOf l s .nodes) q ≡ none
     go [] h = refl
-    go (x ∷ xs) h = absurd (omega (arith, times-place s (queueAt l) (getD s 2 0) x (h x (List·Memᴰ·head refl)) .1))
+    go (x ∷ xs) h = absurd (omega (arith, times-place s (queueAt l) (queuedIn s) x (h x (List·Memᴰ·head refl)) .1))
 
 -- ---- node k is taken, and m words are left in the queue
 
 module _ {l k m : ℕ} {s t : List ℕ} (f : Formed l s) (p : Taken s t (queueAt l) k m) where
-  used : getD t 1 0 ≡ getD s 1 0
-  used = p .below 1 (omega arith) (omega arith)
+  used : usedIn t ≡ usedIn s
+  used = p .below usedAt (omega arith) (omega arith)
 
   counts : (x : ℕ) → waits l t x + one k x ≡ waits l s x
   counts x = ap (λ (n : ℕ). times t (queueAt l) n x + one k x) (p .count) ∙ p .waiting x ∙ sym (ap (λ (n : ℕ). times s (queueAt l) n x) (p .some))
@@ -84,7 +85,7 @@ module _ {l k m : ℕ} {s t : List ℕ} (f : Formed l s) (p : Taken s t (queueAt
 
   first-least : (x : ℕ) → 0 < waits l s x → key s k ≤ key s x
   unfolding rank
-  first-least x h = let i = times-place s (queueAt l) (getD s 2 0) x h in rw (i .2) at (p .least (i .0) (omega (arith, i .1)))
+  first-least x h = let i = times-place s (queueAt l) (queuedIn s) x h in rw (i .2) at (p .least (i .0) (omega (arith, i .1)))
 
   taken-first : least (treeOf l s .nodes) (treeOf l s .waiting) ≡ some k
   taken-first = least-key f k waits-first first-least
@@ -96,7 +97,7 @@ module _ {l k m : ℕ} {s t : List ℕ} (f : Formed l s) (p : Taken s t (queueAt
     vertices = omega arith;
     used = omega (arith, used);
     queued = omega (arith, used);
-    nodes = λ i h. omega (arith, used, waits-node f (getD t (queueAt l + i) 0) (omega (arith, counts (getD t (queueAt l + i) 0), place-times t (queueAt l) (getD t 2 0) i h)));
+    nodes = λ i h. omega (arith, used, waits-node f (queueWordIn l t i) (omega (arith, counts (queueWordIn l t i), place-times t (queueAt l) (queuedIn t) i h)));
     once = λ x. omega (arith, counts x, f .once x);
     heap = p .queue .heap;
     closers = λ v h. omega (arith, used, p .above (closedWordsAt l + v) (omega arith), f .closers v (omega arith));
@@ -110,14 +111,14 @@ module _ {l k m : ℕ} {s t : List ℕ} (f : Formed l s) (p : Taken s t (queueAt
   taken-tree : treeOf l t ≡ popped (treeOf l s) k
   unfolding treeIn popped
   taken-tree = λ i. record {
-    start = p .below 0 (omega arith) (omega arith) i;
+    start = p .below startAt (omega arith) (omega arith) i;
     nodes = same-nodes i;
     waiting = waiting-popped l s t (queue-fits f) (p .queue .room .fits) k used counts (f .once k) i;
     closed = closed-same l s t (p .len) (λ j h. p .above j (omega arith)) i;
   }
     where
       same-nodes : treeOf l t .nodes ≡ treeOf l s .nodes
-      same-nodes = ap (λ (n : ℕ). nodesIn n (drop nodesAt t)) used ∙ nodes-same (getD s 1 0) s t (λ j a b. p .below j (omega arith) (omega arith))
+      same-nodes = ap (λ (n : ℕ). nodesIn n t) used ∙ nodes-same (usedIn s) s t (λ j a b. p .below j (omega arith) (omega arith))
 
   taken-pops : Pops l s t k m
   taken-pops = record { first = taken-first; tree = taken-tree; formed = taken-formed; node = omega (arith, used, waits-node f k waits-first); left = p .count }

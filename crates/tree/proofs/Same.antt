@@ -1,4 +1,4 @@
--- Words that stayed hold the same nodes, the same part and the same closed words; a slot's words hold one tree in either reading.
+-- Words that stayed hold the same part and the same closed words; a slot's words hold one tree in either reading.
 -- Assumes nothing.
 use mathlib.Core.Path.{_≡_, sym, ap, _∙_}
 use mathlib.Core.List.{List}
@@ -6,28 +6,10 @@ use Prim.Native.Nat.{ℕ, _+_, _-_, _<_, _≤_}
 use native.Mathlib.Omega.{arith}
 use lib.ListN.{length, getD, drop, length-take, length-drop}
 use lib.Seq.{ext-getD}
-use Rattle.model.specs.Tree.{noNode}
-use Rattle.layout.specs.Layout.{nodesAt, nodeAt, closedWordsAt, treeWords, part}
-use Rattle.layout.specs.Read.{nodesIn, treeIn}
+use Rattle.layout.specs.Layout.{closedWordsAt, treeWords, part}
+use Rattle.layout.specs.Read.{treeIn}
 use Rattle.layout.proofs.Places.{part-at}
-use Rattle.layout.proofs.Trees.{nodeIn, nodes-in-length, node-at}
 use Rattle.tree.specs.Tree.{treeOf}
-
--- the n nodes of a tree's own words
-pub nodes-same : (n : ℕ) (s t : List ℕ) → ((j : ℕ) → nodesAt ≤ j → j < nodeAt n → getD t j 0 ≡ getD s j 0)
-    → nodesIn n (drop nodesAt t) ≡ nodesIn n (drop nodesAt s)
-nodes-same n s t f =
-    ext-getD noNode (nodesIn n (drop nodesAt t)) (nodesIn n (drop nodesAt s))
-    (nodes-in-length n (drop nodesAt t) ∙ sym (nodes-in-length n (drop nodesAt s)))
-    (λ k b. let h : k < n = omega (arith, nodes-in-length n (drop nodesAt t)) in node-at n t k h ∙ words k h ∙ sym (node-at n s k h))
-  where
-    words : (k : ℕ) → k < n → nodeIn t (nodeAt k) ≡ nodeIn s (nodeAt k)
-    words k h = λ i. record {
-      vertex = f (nodeAt k) (omega arith) (omega arith) i;
-      cost = f (nodeAt k + 1) (omega arith) (omega arith) i;
-      parent = f (nodeAt k + 2) (omega arith) (omega arith) i;
-      edge = f (nodeAt k + 3) (omega arith) (omega arith) i;
-    }
 
 -- the n words from a on
 pub part-same : (a n : ℕ) (s t : List ℕ) → length t ≡ length s → ((j : ℕ) → j < n → getD t (a + j) 0 ≡ getD s (a + j) 0) → part a n t ≡ part a n s

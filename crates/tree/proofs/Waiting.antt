@@ -16,7 +16,7 @@ use Rattle.model.specs.Lists.{numbers, keep, those, mem}
 use Rattle.model.specs.Tree.{without}
 use Rattle.model.proofs.Bools.{true-or-right}
 use Rattle.model.proofs.Lists.{numbers-mem, numbers-has, numbers-snoc, those-mem, those-has, those-snoc, those-same, mem-snoc}
-use Rattle.layout.specs.Layout.{queueAt, part}
+use Rattle.layout.specs.Layout.{queueAt, part, queuedIn, usedIn}
 use Rattle.layout.specs.Read.{treeIn}
 use Rattle.queue.specs.Queue.{one, times}
 use Rattle.queue.proofs.Times.{one-same, one-other, times-place}
@@ -57,30 +57,30 @@ those-without p r k f (x ∷ xs) = rw (f x, those-without p r k f xs) (go (p x) 
 
 -- how often x stands in the queue
 abbrev pub waits : ℕ → List ℕ → ℕ → ℕ
-waits l t x = times t (queueAt l) (getD t 2 0) x
+waits l t x = times t (queueAt l) (queuedIn t) x
 
 abbrev waitsb : ℕ → List ℕ → ℕ → Bool
 waitsb l t x = ltb 0 (waits l t x)
 
-waiting-is : (l : ℕ) (t : List ℕ) → queueAt l + getD t 2 0 ≤ length t → treeOf l t .waiting ≡ those (waitsb l t) (numbers (getD t 1 0))
+waiting-is : (l : ℕ) (t : List ℕ) → queueAt l + queuedIn t ≤ length t → treeOf l t .waiting ≡ those (waitsb l t) (numbers (usedIn t))
 unfolding treeIn
 waiting-is l t h =
-    ap (λ (p : ℕ → Bool). those p (numbers (getD t 1 0))) (fun-ext (λ x. mem-times t (queueAt l) (getD t 2 0) x h))
+    ap (λ (p : ℕ → Bool). those p (numbers (usedIn t))) (fun-ext (λ x. mem-times t (queueAt l) (queuedIn t) x h))
 
-module _ (l : ℕ) (t : List ℕ) (h : queueAt l + getD t 2 0 ≤ length t) (x : ℕ) where
+module _ (l : ℕ) (t : List ℕ) (h : queueAt l + queuedIn t ≤ length t) (x : ℕ) where
   pub waiting-mem : List·Memᴰ x (treeOf l t .waiting) → 0 < waits l t x
-  waiting-mem m = ltb-true 0 (waits l t x) (those-mem (waitsb l t) (numbers (getD t 1 0)) x (rw (waiting-is l t h) at m) .1)
+  waiting-mem m = ltb-true 0 (waits l t x) (those-mem (waitsb l t) (numbers (usedIn t)) x (rw (waiting-is l t h) at m) .1)
 
-  pub waiting-has : x < getD t 1 0 → 0 < waits l t x → List·Memᴰ x (treeOf l t .waiting)
+  pub waiting-has : x < usedIn t → 0 < waits l t x → List·Memᴰ x (treeOf l t .waiting)
   waiting-has u w =
-      rw (waiting-is l t h) (those-has (waitsb l t) (numbers (getD t 1 0)) x (numbers-has (getD t 1 0) x u) (lt-ltb 0 (waits l t x) w))
+      rw (waiting-is l t h) (those-has (waitsb l t) (numbers (usedIn t)) x (numbers-has (usedIn t) x u) (lt-ltb 0 (waits l t x) w))
 
-module _ (l : ℕ) (s t : List ℕ) (hs : queueAt l + getD s 2 0 ≤ length s) (ht : queueAt l + getD t 2 0 ≤ length t) where
+module _ (l : ℕ) (s t : List ℕ) (hs : queueAt l + queuedIn s ≤ length s) (ht : queueAt l + queuedIn t ≤ length t) where
   -- node k was taken
-  pub waiting-popped : (k : ℕ) → getD t 1 0 ≡ getD s 1 0 → ((x : ℕ) → waits l t x + one k x ≡ waits l s x) → waits l s k ≤ 1
+  pub waiting-popped : (k : ℕ) → usedIn t ≡ usedIn s → ((x : ℕ) → waits l t x + one k x ≡ waits l s x) → waits l s k ≤ 1
       → treeOf l t .waiting ≡ without k (treeOf l s .waiting)
   waiting-popped k u f once =
-      rw (waiting-is l t ht, u, waiting-is l s hs) (those-without (waitsb l s) (waitsb l t) k test (numbers (getD s 1 0)))
+      rw (waiting-is l t ht, u, waiting-is l s hs) (those-without (waitsb l s) (waitsb l t) k test (numbers (usedIn s)))
     where
       test : (x : ℕ) → waitsb l t x ≡ (not (eqb x k) && waitsb l s x)
       test x = elim (ℕ-discrete x k) [
@@ -91,8 +91,8 @@ module _ (l : ℕ) (s t : List ℕ) (hs : queueAt l + getD s 2 0 ≤ length s) (
       ]
 
   -- the node with the next number was queued
-  pub waiting-pushed : getD t 1 0 ≡ getD s 1 0 + 1 → ((x : ℕ) → waits l t x ≡ waits l s x + one (getD s 1 0) x)
-      → treeOf l t .waiting ≡ treeOf l s .waiting ++ (getD s 1 0 ∷ [])
+  pub waiting-pushed : usedIn t ≡ usedIn s + 1 → ((x : ℕ) → waits l t x ≡ waits l s x + one (usedIn s) x)
+      → treeOf l t .waiting ≡ treeOf l s .waiting ++ (usedIn s ∷ [])
   waiting-pushed u f =
       rw (waiting-is l t ht, u, add-one, waiting-is l s hs)
       (ap (those (waitsb l t)) (numbers-snoc n)
@@ -100,7 +100,7 @@ module _ (l : ℕ) (s t : List ℕ) (hs : queueAt l + getD s 2 0 ≤ length s) (
       ∙ ap₂ (λ (xs : List ℕ) (b : Bool). xs ++ keep b n []) (those-same (waitsb l t) (waitsb l s) (numbers n) test) last)
     where
       n : ℕ
-      n = getD s 1 0
+      n = usedIn s
 
       test : (x : ℕ) → List·Memᴰ x (numbers n) → waitsb l t x ≡ waitsb l s x
       test x h = let same : waits l t x ≡ waits l s x = omega (arith, f x, one-other n x (omega (arith, numbers-mem n x h))) in rw same
@@ -109,5 +109,5 @@ module _ (l : ℕ) (s t : List ℕ) (hs : queueAt l + getD s 2 0 ≤ length s) (
       last = lt-ltb 0 (waits l t n) (omega (arith, f n, one-same n n refl))
 
 -- what waits is a node
-pub waits-node : {l : ℕ} {t : List ℕ} → Formed l t → (x : ℕ) → 0 < waits l t x → x < getD t 1 0
-waits-node {l} {t} f x h = let i = times-place t (queueAt l) (getD t 2 0) x h in omega (arith, f .nodes (i .0) (i .1), i .2)
+pub waits-node : {l : ℕ} {t : List ℕ} → Formed l t → (x : ℕ) → 0 < waits l t x → x < usedIn t
+waits-node {l} {t} f x h = let i = times-place t (queueAt l) (queuedIn t) x h in omega (arith, f .nodes (i .0) (i .1), i .2)

@@ -9,9 +9,9 @@ use Rattle.model.specs.Limits.{vertexLimit, edgeLimit}
 use Rattle.model.specs.declared.Solution.{Solution}
 use Rattle.model.specs.declared.Solution.the-variants.{Unsolved, At}
 use Rattle.model.specs.Graph.{Domain}
-use Rattle.model.specs.Search.{cheapest, consider}
+use Rattle.model.specs.Search.{solutionCost, cheapest, consider}
 use Rattle.model.specs.Tree.{Node, Tree, least, popped, close, closedAt}
-use Rattle.layout.specs.Layout.{nodeAt, queueAt, closedWordsAt}
+use Rattle.layout.specs.Layout.{queuedAt, queuedIn, usedIn, nodeAt, queueAt, queueWordIn, closedWordsAt, closedWordIn}
 use Rattle.layout.specs.Read.{treeIn}
 use Rattle.queue.specs.declared.Popped.{Popped}
 use Rattle.queue.specs.declared.Popped.the-variants.{Ticket, Empty}
@@ -35,14 +35,14 @@ pub record Formed (l : ℕ) (t : List ℕ) : Type 0 where
   pub edges : l ≤ edgeLimit
   pub fits : closedWordsAt l ≤ length t
   pub vertices : length t ≤ closedWordsAt l + vertexLimit
-  pub used : getD t 1 0 ≤ 1 + l
-  pub queued : getD t 2 0 ≤ getD t 1 0
-  pub nodes : (i : ℕ) → i < getD t 2 0 → getD t (queueAt l + i) 0 < getD t 1 0
-  pub once : (x : ℕ) → times t (queueAt l) (getD t 2 0) x ≤ 1
-  pub heap : Heap (rank t (queueAt l)) (getD t 2 0)
-  pub closers : (v : ℕ) → closedWordsAt l + v < length t → getD t (closedWordsAt l + v) 0 ≤ getD t 1 0
-  pub spare-nodes : (i : ℕ) → nodeAt (getD t 1 0) ≤ i → i < queueAt l → getD t i 0 ≡ 0
-  pub spare-queue : (i : ℕ) → queueAt l + getD t 2 0 ≤ i → i < closedWordsAt l → getD t i 0 ≡ 0
+  pub used : usedIn t ≤ 1 + l
+  pub queued : queuedIn t ≤ usedIn t
+  pub nodes : (i : ℕ) → i < queuedIn t → queueWordIn l t i < usedIn t
+  pub once : (x : ℕ) → times t (queueAt l) (queuedIn t) x ≤ 1
+  pub heap : Heap (rank t (queueAt l)) (queuedIn t)
+  pub closers : (v : ℕ) → closedWordsAt l + v < length t → closedWordIn l t v ≤ usedIn t
+  pub spare-nodes : (i : ℕ) → nodeAt (usedIn t) ≤ i → i < queueAt l → getD t i 0 ≡ 0
+  pub spare-queue : (i : ℕ) → queueAt l + queuedIn t ≤ i → i < closedWordsAt l → getD t i 0 ≡ 0
 
 -- v is one of the vertices
 abbrev pub HasVertex : ℕ → List ℕ → ℕ → Type 0
@@ -55,12 +55,12 @@ pub record Pops (l : ℕ) (s t : List ℕ) (k m : ℕ) : Type 0 where
   pub first : least (treeOf l s .nodes) (treeOf l s .waiting) ≡ some k
   pub tree : treeOf l t ≡ popped (treeOf l s) k
   pub formed : Formed l t
-  pub node : k < getD t 1 0
-  pub left : getD t 2 0 ≡ m
+  pub node : k < usedIn t
+  pub left : queuedIn t ≡ m
 
 -- the length m is handed back, and not stored yet
 abbrev pub PopIs : ℕ → List ℕ → List ℕ → Popped → Type 0
-PopIs l s t (Ticket k m) = (getD t 2 0 ≡ getD s 2 0) × Pops l s (set t 2 m) k m
+PopIs l s t (Ticket k m) = (queuedIn t ≡ queuedIn s) × Pops l s (set t queuedAt m) k m
 PopIs l s t Empty = (least (treeOf l s .nodes) (treeOf l s .waiting) ≡ none) × (t ≡ s)
 
 -- ---- the closed set
@@ -73,7 +73,7 @@ statusOf (suc n) = Closed n
 pub record CanClose (l : ℕ) (t : List ℕ) (v n : ℕ) : Type 0 where
   pub formed : Formed l t
   pub vertex : HasVertex l t v
-  pub node : n < getD t 1 0
+  pub node : n < usedIn t
 
 pub record Closes (l : ℕ) (s t : List ℕ) (v n : ℕ) : Type 0 where
   pub before : closedAt (treeOf l s .closed) v ≡ 0
@@ -91,21 +91,24 @@ HasGoals l t gs = (i : ℕ) → i < length gs → HasVertex l t (getD gs i 0)
 -- a solution is a node
 abbrev pub HasSolution : List ℕ → Solution → Type 0
 HasSolution t Unsolved = Unit {0}
-HasSolution t (At n) = n < getD t 1 0
+HasSolution t (At n) = n < usedIn t
 
--- of any domain: what a solution is worth does not depend on it
-abbrev pub CheapestIs : ℕ → List ℕ → List ℕ → Solution → Type 0
-CheapestIs l t gs r = (d : Domain) → r ≡ cheapest d (treeOf l t .nodes) (treeOf l t .closed) gs Unsolved
+-- node n of the tree t is a solution: what it is worth in the domain d
+abbrev pub SolutionCostIs : Domain → List ℕ → ℕ → ℕ → Type 0
+SolutionCostIs d t n r = (m l : ℕ) → r ≡ solutionCost d (treeIn m l t .nodes) n
 
-pub record Considers (l : ℕ) (t : List ℕ) (o : Solution) (v : ℕ) (r : Solution) : Type 0 where
+abbrev pub CheapestIs : Domain → ℕ → List ℕ → List ℕ → Solution → Type 0
+CheapestIs d l t gs r = r ≡ cheapest d (treeOf l t .nodes) (treeOf l t .closed) gs Unsolved
+
+pub record Considers (d : Domain) (l : ℕ) (t : List ℕ) (o : Solution) (v : ℕ) (r : Solution) : Type 0 where
   pub node : HasSolution t r
-  pub solution : (d : Domain) → r ≡ consider d (treeOf l t .nodes) o (closedAt (treeOf l t .closed) v)
+  pub solution : r ≡ consider d (treeOf l t .nodes) o (closedAt (treeOf l t .closed) v)
 
 -- ---- a node more
 
 pub record CanAdd (l : ℕ) (t : List ℕ) : Type 0 where
   pub formed : Formed l t
-  pub room : getD t 1 0 < 1 + l
+  pub room : usedIn t < 1 + l
 
 pub record CanPushNode (l : ℕ) (t : List ℕ) (x : NodeWords) : Type 0 where
   pub add : CanAdd l t

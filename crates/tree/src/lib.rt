@@ -6,12 +6,12 @@ use crate::partial_keyed_closed_set::status;
 use layout::wide;
 use queue::Popped;
 ghost use mathlib.Core.Path.{_≡_};
-ghost use mathlib.Core.List.{_∷_, []};
-ghost use Prim.Native.Nat.{_+_, _<_, _≤_};
+ghost use Prim.Native.Nat.{_+_, _<_};
 ghost use lib.ListN.{length, set};
 ghost use lib.Seq.{sets};
 ghost use Rattle.model.specs.Tree.{appended, pushNode};
-ghost use Rattle.layout.specs.Layout.{nodeAt};
+ghost use Rattle.layout.specs.Layout.{queuedAt, nodeAt, NodeFits};
+ghost use Rattle.layout.specs.Words.{nodeWords};
 ghost use Rattle.tree.specs.Tree.{treeOf, nodeOf, Formed, PopIs, CanAdd, CanPushNode, HoldsTree};
 
 // A node's words.
@@ -30,7 +30,7 @@ pub fn push_node(tree: &mut [u32], edges: usize, node: Node)
     match status(tree, edges, wide(node.vertex)) {
         ClosedStatus::Open => {}
         ClosedStatus::Closed(prior) => {
-            if queue::evaluation(tree, prior) <= node.cost {
+            if queue::evaluation(tree, prior) <= queue::evaluation_of(node.cost) {
                 return;
             }
         }
@@ -51,14 +51,14 @@ fn add_node(tree: &mut [u32], edges: usize, node: Node)
 
 // Writes the four words of a node.
 pub fn put_node(tree: &mut [u32], number: usize, node: Node)
-    requires { ⌜ nodeAt number + 4 ≤ length (now tree) ⌝ }
-    ensures { λ _. ⌜ now (tree .exit) ≡ sets (now (tree .entry)) (nodeAt number) (node .vertex ∷ node .cost ∷ node .parent ∷ node .edge ∷ []) ⌝ }
+    requires { ⌜ NodeFits (length (now tree)) number ⌝ }
+    ensures { λ _. ⌜ now (tree .exit) ≡ sets (now (tree .entry)) (nodeAt number) (nodeWords (nodeOf node)) ⌝ }
 {
     let at = layout::node_at(number);
-    tree[at] = node.vertex;
-    tree[at + 1] = node.cost;
-    tree[at + 2] = node.parent;
-    tree[at + 3] = node.edge;
+    tree[at + layout::NODE_VERTEX] = node.vertex;
+    tree[at + layout::NODE_COST] = node.cost;
+    tree[at + layout::NODE_PARENT] = node.parent;
+    tree[at + layout::NODE_EDGE] = node.edge;
 }
 
 // Takes the first ticket from the queue; the length that the queue then has is handed back, for `set_queued`.
@@ -71,8 +71,8 @@ pub fn pop(tree: &mut [u32], edges: usize) -> Popped
 
 // Stores the length of the queue.
 pub fn set_queued(tree: &mut [u32], queued: u32)
-    requires { ⌜ 2 < length (now tree) ⌝ }
-    ensures { λ _. ⌜ now (tree .exit) ≡ set (now (tree .entry)) 2 queued ⌝ }
+    requires { ⌜ queuedAt < length (now tree) ⌝ }
+    ensures { λ _. ⌜ now (tree .exit) ≡ set (now (tree .entry)) queuedAt queued ⌝ }
 {
     tree[layout::QUEUED] = queued;
 }

@@ -2,9 +2,13 @@
 use layout::wide;
 use model::Solution;
 ghost use mathlib.Core.Path.{_≡_};
+ghost use Prim.Native.Nat.{_<_};
+ghost use lib.ListN.{length};
 ghost use Rattle.model.specs.Tree.{closedAt};
 ghost use Rattle.model.specs.Search.{closedCount};
-ghost use Rattle.tree.specs.Tree.{treeOf, Formed, HasVertex, HasGoals, HasSolution, statusOf, CanClose, CloseIs, CheapestIs, Considers};
+ghost use Rattle.layout.specs.Layout.{usedIn, NodeFits};
+ghost use Rattle.layout.specs.Read.{readCache};
+ghost use Rattle.tree.specs.Tree.{treeOf, Formed, HasVertex, HasGoals, HasSolution, statusOf, CanClose, CloseIs, SolutionCostIs, CheapestIs, Considers};
 
 pub enum ClosedStatus {
     Open,
@@ -41,51 +45,67 @@ pub fn status(tree: &[u32], edges: usize, vertex: usize) -> ClosedStatus
     ClosedStatus::Closed(word - 1)
 }
 
-// How many vertices are closed, counted from the closed words. The count is a word, so that the compiler counts four at a time.
+// How many vertices are closed, counted from the closed words: those that are not open. The count is a word and counts the words
+// that are 0, so that the compiler counts four at a time and in the fewest instructions.
 pub fn closed_keys_len(tree: &[u32], edges: usize) -> usize
     requires { ⌜ Formed edges (now tree) ⌝ }
     ensures { λ r. ⌜ r ≡ closedCount (treeOf edges (now (tree .entry)) .closed) ⌝ }
 {
-    let mut count: u32 = 0;
-    let mut place = layout::closed_at(edges);
+    let start = layout::closed_at(edges);
+    let mut unclosed: u32 = 0;
+    let mut place = start;
     while place < tree.len() {
-        if tree[place] != 0 {
-            count += 1;
+        if tree[place] == 0 {
+            unclosed += 1;
         }
         place += 1;
     }
-    wide(count)
+    tree.len() - start - wide(unclosed)
 }
 
-// The cheapest closed goal, the first in the list on ties, as the node that closed it.
-pub fn cheapest_goal(tree: &[u32], edges: usize, goals: &[u32]) -> Solution
+// The cheapest closed goal, the first in the list on ties, as the node that closed it. `words` are those of the tree's cache.
+pub fn cheapest_goal(words: &[u32], tree: &[u32], edges: usize, goals: &[u32]) -> Solution
     requires { ⌜ Formed edges (now tree) × HasGoals edges (now tree) (now goals) ⌝ }
-    ensures { λ r. ⌜ CheapestIs edges (now (tree .entry)) (now (goals .entry)) r ⌝ }
+    ensures { λ r. ⌜ CheapestIs (readCache (now (words .entry)) .domain) edges (now (tree .entry)) (now (goals .entry)) r ⌝ }
 {
     let mut best = Solution::Unsolved;
     let mut i = 0;
     while i < goals.len() {
-        best = cheaper_goal(tree, edges, best, wide(goals[i]));
+        best = cheaper_goal(words, tree, edges, best, wide(goals[i]));
         i += 1;
     }
     best
 }
 
 // The solution held, or the node that closed a vertex if that is cheaper.
-fn cheaper_goal(tree: &[u32], edges: usize, best: Solution, vertex: usize) -> Solution
+fn cheaper_goal(
+    words: &[u32],
+    tree: &[u32],
+    edges: usize,
+    best: Solution,
+    vertex: usize,
+) -> Solution
     requires { ⌜ Formed edges (now tree) × (HasVertex edges (now tree) vertex × HasSolution (now tree) best) ⌝ }
-    ensures { λ r. ⌜ Considers edges (now (tree .entry)) best vertex r ⌝ }
+    ensures { λ r. ⌜ Considers (readCache (now (words .entry)) .domain) edges (now (tree .entry)) best vertex r ⌝ }
 {
     match status(tree, edges, vertex) {
         ClosedStatus::Open => best,
         ClosedStatus::Closed(node) => match best {
             Solution::Unsolved => Solution::At(node),
             Solution::At(held) => {
-                if queue::evaluation(tree, node) < queue::evaluation(tree, held) {
+                if solution_cost(words, tree, node) < solution_cost(words, tree, held) {
                     return Solution::At(node);
                 }
                 best
             }
         },
     }
+}
+
+// What the solution at a node is worth.
+pub fn solution_cost(words: &[u32], tree: &[u32], node: u32) -> u64
+    requires { ⌜ (node < usedIn (now tree)) × NodeFits (length (now tree)) node ⌝ }
+    ensures { λ r. ⌜ SolutionCostIs (readCache (now (words .entry)) .domain) (now (tree .entry)) node r ⌝ }
+{
+    queue::evaluation(tree, node)
 }

@@ -36,22 +36,25 @@ at-node v = at-store v .before .before .before
 abbrev at-pop : tie.After-visit Inv-loop μ-loop → tie.After-pop Inv-loop μ-loop
 at-pop v = at-node v .before .before .before .before
 
+abbrev at-loop : tie.After-visit Inv-loop μ-loop → tie.In-loop Inv-loop μ-loop
+at-loop v = at-pop v .before .before
+
 loop-again : tie.Need-loop-again Inv-loop μ-loop
 loop-again c =
     let v = c .before .before .before .before in
-    growing-on (at-pop v .before .before .before .loop .inv) (at-pop v .before .before .loop-test .taken) _ (at-pop v .pop .kept .0) (at-pop v .pop .ensures) (at-node v .node .given .1)
+    growing-on (at-loop v .before .loop .inv) (at-loop v .loop-test .taken) _ (at-pop v .pop .kept .0) (at-pop v .pop .ensures) (at-node v .node .given .1)
     (at-store v .set-queued .ensures) (v .visit .ensures) (c .enum-told2 .given .1)
 
 returns-2 : tie.Need-returns-2 Inv-loop μ-loop
 returns-2 c =
     let v = c .before .before .before .before in
-    growing-found (at-pop v .before .before .before .loop .inv) (at-pop v .before .before .loop-test .taken) _ (at-pop v .pop .kept .0) (at-pop v .pop .ensures) (at-node v .node .given .1)
+    growing-found (at-loop v .before .loop .inv) (at-loop v .loop-test .taken) _ (at-pop v .pop .kept .0) (at-pop v .pop .ensures) (at-node v .node .given .1)
     (at-store v .set-queued .ensures) (v .visit .ensures) (c .enum-told3 .given .1)
 
 returns-3 : tie.Need-returns-3 Inv-loop μ-loop
 returns-3 c =
     let v = c .before .before .before .before in
-    growing-over (at-pop v .before .before .before .loop .inv) (at-pop v .before .before .loop-test .taken) _ (at-pop v .pop .kept .0) (at-pop v .pop .ensures) (at-node v .node .given .1)
+    growing-over (at-loop v .before .loop .inv) (at-loop v .loop-test .taken) _ (at-pop v .pop .kept .0) (at-pop v .pop .ensures) (at-node v .node .given .1)
     (at-store v .set-queued .ensures) (v .visit .ensures) (c .enum-told4 .given .1)
 
 returns-4 : tie.Need-returns-4 Inv-loop μ-loop

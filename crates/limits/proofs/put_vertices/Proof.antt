@@ -1,9 +1,11 @@
--- `limits::put_vertices` meets its contract. The place stays within the text.
+-- `limits::put_vertices` meets its contract.
 -- Assumes nothing.
-use Prim.Native.Nat.{_≤_, _-_}
 use mathlib.Core.Path.{_≡_}
+use Prim.Native.Nat.{_-_, _≤_}
+use native.Mathlib.Omega.{arith}
 use borrow.Author.Needs.{needs}
 use lib.ListN.{length}
+use Rattle.put_text.proofs.GraphLines.{vertex-most}
 use Rattle.limits.proofs.put_vertices.Statement.{statement}
 use Rattle.limits.proofs.put_vertices.Tie as tie
 
@@ -13,6 +15,27 @@ Inv-loop text₀ count initial at₀ v₀ text at v = (at ≤ length text) × (l
 abbrev μ-loop : tie.MeasureT-loop
 μ-loop text₀ count initial at₀ v₀ text at v = count - v
 
+loop-holds : tie.Need-loop-holds Inv-loop μ-loop
+loop-holds c = search needs
+
+returns : tie.Need-returns Inv-loop μ-loop
+returns c = search needs
+
+put-vertex-requires : tie.Need-put-vertex-requires Inv-loop μ-loop
+put-vertex-requires c κs =
+    let at = c .before .before .before .loop in
+    (search needs, omega (arith, at .inv, c .before .if1 .left, vertex-most (at .v) (c .before .before .before .before .before .before .args .s .initial)))
+
+loop-again : tie.Need-loop-again Inv-loop μ-loop
+loop-again c =
+    let a = c .before .before .before in
+    let p = c .before .before .put-vertex in
+    let at = a .before .before .before .loop in
+    omega (arith, p .ensures .end, p .kept .0, at .inv, a .before .if1 .left, vertex-most (at .v) (a .before .before .before .before .before .before .args .s .initial))
+
+returns-2 : tie.Need-returns-2 Inv-loop μ-loop
+returns-2 c = search needs
+
 pub put-vertices-spec : {M : Type 1} → statement M
 put-vertices-spec =
     tie.close
@@ -20,11 +43,13 @@ put-vertices-spec =
     Inv-loop
     μ-loop
     (λ c κs. search needs)
-    (λ c κs. search needs)
-    (λ c. search needs)
-    (λ c κs. search needs)
+    loop-holds
     (λ c. search needs)
     (λ c. search needs)
+    returns
+    put-vertex-requires
     (λ c. search needs)
     (λ c. search needs)
-    (λ c. search needs))
+    loop-again
+    (λ c. search needs)
+    returns-2)

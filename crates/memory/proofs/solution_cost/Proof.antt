@@ -1,41 +1,24 @@
 -- `solution_cost` meets its contract.
 -- Assumes nothing.
-use mathlib.Core.Path.{_∙_}
-use borrow.Author.Needs.{needs}
-use Rattle.memory.proofs.Slots.{slot-is-ready, part-starts, part-ends, part-node-fits, part-cost}
+use mathlib.Core.Path.{refl}
+use native.Mathlib.Omega.{arith}
+use Rattle.sound.proofs.InUse.{has-slot, words-used, words-node-fits, words-solution}
 use Rattle.memory.proofs.solution_cost.Statement.{statement}
 use Rattle.memory.proofs.solution_cost.Tie as tie
 
-mul-evaluation : tie.Need-mul-evaluation
-mul-evaluation c = search (needs, slot-is-ready (c .before .before .pre .used) (c .slot-of .ensures))
+slot-words-requires : tie.Need-slot-words-requires
+slot-words-requires c κs = has-slot (c .before .pre .used)
 
-sub-evaluation : tie.Need-sub-evaluation
-sub-evaluation c = part-starts (c .before .before .pre .used) (c .slot-of .ensures)
-
-part-evaluation-start : tie.Need-part-evaluation-start
-part-evaluation-start c = part-starts (c .before .before .pre .used) (c .slot-of .ensures)
-
-part-evaluation-end : tie.Need-part-evaluation-end
-part-evaluation-end c = part-ends (c .before .before .pre .used) (c .slot-of .ensures)
-
-evaluation-requires : tie.Need-evaluation-requires
-evaluation-requires c κs =
-    let a = c .before .before .before in
-    part-node-fits (a .pre .used) (c .before .slot-of .ensures) _ (a .pre .node)
+solution-cost-requires : tie.Need-solution-cost-requires
+solution-cost-requires c κs =
+    let a = c .before .before .pre in
+    let own = c .slot-words .ensures in
+    (omega (arith, a .node, words-used (a .used) own refl), omega (arith, words-node-fits (a .used) own refl _ (a .node)))
 
 returns : tie.Need-returns
 returns c =
-    let a = c .before .before .before .before in
-    c .evaluation .ensures ∙ part-cost (a .pre .used) (c .before .before .slot-of .ensures) _ (a .pre .node)
+    let a = c .before .before .before .pre in
+    words-solution (a .used) (c .before .slot-words .ensures) refl _ (a .node) _ (c .solution-cost .ensures)
 
 pub solution-cost-spec : {M : Type 1} → statement M
-solution-cost-spec =
-    tie.close
-    (tie.spec
-    (λ c κs. search needs)
-    mul-evaluation
-    sub-evaluation
-    part-evaluation-start
-    part-evaluation-end
-    evaluation-requires
-    returns)
+solution-cost-spec = tie.close (tie.spec slot-words-requires solution-cost-requires returns)

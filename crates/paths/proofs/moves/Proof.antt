@@ -1,8 +1,7 @@
 -- `moves` meets its contract: the moves made and those of the node reached are the moves of the node asked for.
 -- Assumes nothing.
-use native.Mathlib.Omega.{arith}
 use borrow.Author.Needs.{needs}
-use Rattle.paths.proofs.Parents.{hung-word}
+use Rattle.paths.proofs.Parents.{hung-fits}
 use Rattle.paths.proofs.Counted.{Counted, count-start, count-less, count-turn, count-end}
 use Rattle.paths.proofs.moves.Statement.{statement}
 use Rattle.paths.proofs.moves.Tie as tie
@@ -13,8 +12,8 @@ Inv-loop tree node moves₀ at₀ moves at = Counted tree node moves at
 abbrev μ-loop : tie.MeasureT-loop
 μ-loop tree node moves₀ at₀ moves at = at
 
-node-word-requires : tie.Need-node-word-requires Inv-loop μ-loop
-node-word-requires c κs = hung-word _ _ (c .before .loop .inv .hung) 2 (omega arith)
+node-parent-requires : tie.Need-node-parent-requires Inv-loop μ-loop
+node-parent-requires c κs = hung-fits _ _ (c .before .loop .inv .hung)
 
 add-moves : tie.Need-add-moves Inv-loop μ-loop
 add-moves c = search needs
@@ -35,7 +34,7 @@ moves-spec =
     Inv-loop
     μ-loop
     (λ c. search count-start)
-    node-word-requires
+    node-parent-requires
     (λ c κs. search needs)
     add-moves
     loop-less

@@ -1,4 +1,4 @@
--- `replay` meets its contract: the lines done rise to 262,144.
+-- `script::replay` meets its contract: the lines done rise to 262,144.
 -- Assumes nothing.
 use Prim.Native.Nat.{_-_, _≤_}
 use borrow.Author.Needs.{needs}
@@ -22,6 +22,7 @@ replay-spec =
     (λ c. search needs)
     (λ c κs. search needs)
     (λ c. search needs)
+    (λ c κs. search needs)
     (λ c κs. search needs)
     (λ c κs. search needs)
     (λ c κs. search needs)

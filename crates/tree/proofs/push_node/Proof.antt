@@ -10,7 +10,11 @@ evaluation-requires : tie.Need-evaluation-requires
 evaluation-requires c κs = search closer-within
 
 returns : tie.Need-returns
-returns c = search push-within
+returns c =
+    let at-prior = c .before .before .before .before .before in
+    let at-status = at-prior .before .before in
+    push-within (at-status .before .before .before .before .pre) (at-status .before .wide .ensures) (at-status .status .ensures) (at-prior .prior .given .1)
+    (c .before .before .evaluation .ensures) (c .before .evaluation-of .ensures) (c .if1 .taken)
 
 returns-2 : tie.Need-returns-2
 returns-2 c = ⊎-elim (λ w. search push-open) (λ w. search push-above) (c .before .before .before .before .match .came)
@@ -24,6 +28,7 @@ push-node-spec =
     (λ c. search needs)
     (λ c. search needs)
     evaluation-requires
+    (λ c κs. search needs)
     (λ c. search needs)
     returns
     (λ c κs. search needs)

@@ -2,11 +2,12 @@
 -- Assumes nothing.
 use native.Mathlib.Omega.{arith}
 use mathlib.Core.Path.{ap, _∙_}
-use mathlib.Core.List.{[], _∷_}
 use Prim.Native.Nat.{ℕ}
 use borrow.Author.Needs.{needs}
 use lib.ListN.{length-set}
 use lib.Seq.{sets}
+use Rattle.layout.specs.Words.{nodeWords}
+use Rattle.tree.specs.Tree.{nodeOf}
 use Rattle.tree.proofs.Added.{sets-four}
 use Rattle.tree.proofs.put_node.Statement.{statement}
 use Rattle.tree.proofs.put_node.Tie as tie
@@ -25,13 +26,14 @@ returns c =
     let a = c .before .before .args in
     let x = a .node in
     sets-four (a .tree .now) (c .node-at .result) (x .vertex) (x .cost) (x .parent) (x .edge)
-    ∙ ap (λ (i : ℕ). sets (a .tree .now) i (x .vertex ∷ x .cost ∷ x .parent ∷ x .edge ∷ [])) (c .node-at .ensures)
+    ∙ ap (λ (i : ℕ). sets (a .tree .now) i (nodeWords (nodeOf x))) (c .node-at .ensures)
 
 pub put-node-spec : {M : Type 1} → statement M
 put-node-spec =
     tie.close
     (tie.spec
     (λ c κs. search needs)
+    (λ c. search needs)
     (λ c. search needs)
     (λ c. search needs)
     (λ c. search needs)

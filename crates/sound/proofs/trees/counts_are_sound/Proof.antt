@@ -1,18 +1,9 @@
--- `counts_are_sound` meets its contract.
+-- `counts_are_sound` meets its contract: one law for each return.
 -- Assumes nothing.
 use borrow.Author.Needs.{needs}
 use Rattle.sound.proofs.Nodes.{no-node, many-nodes, some-nodes}
 use Rattle.sound.proofs.trees.counts_are_sound.Statement.{statement}
 use Rattle.sound.proofs.trees.counts_are_sound.Tie as tie
-
-returns : tie.Need-returns
-returns c = search no-node
-
-returns-2 : tie.Need-returns-2
-returns-2 c = search many-nodes
-
-returns-3 : tie.Need-returns-3
-returns-3 c = search some-nodes
 
 pub counts-are-sound-spec : {M : Type 1} → statement M
 counts-are-sound-spec =
@@ -20,10 +11,10 @@ counts-are-sound-spec =
     (tie.spec
     (λ c. search needs)
     (λ c κs. search needs)
-    returns
+    (λ c. search no-node)
     (λ c. search needs)
-    returns-2
+    (λ c. search many-nodes)
     (λ c. search needs)
     (λ c κs. search needs)
     (λ c. search needs)
-    returns-3)
+    (λ c. search some-nodes))

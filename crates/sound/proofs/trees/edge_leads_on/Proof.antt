@@ -1,78 +1,37 @@
--- `edge_leads_on` meets its contract.
+-- `edge_leads_on` meets its contract: one law for each return.
 -- Assumes nothing.
-use mathlib.Core.Path.{sym, _∙_}
 use mathlib.Core.Logic.{inl, inr}
-use Prim.Native.Nat.{_+_, _<_}
+use Prim.Native.Nat.{_+_}
 use native.Mathlib.Omega.{arith}
 use borrow.Author.Needs.{needs}
-use Rattle.sound.proofs.Edges.{edge-from, closer-words, onward-open, Sum, sums, onward-shut, onward-waits}
+use Rattle.sound.proofs.Edges.{onward-place, onward-open, onward-closer, sum-fits, Sum, sums, reached-place, reached-closer, has-least, onward-shut, onward-waits}
 use Rattle.sound.proofs.trees.edge_leads_on.Statement.{statement}
 use Rattle.sound.proofs.trees.edge_leads_on.Tie as tie
 
--- the edge leaves a vertex
-leaves : (c : tie.After-wide) → c .wide .result < c .before .before .before .before .before .before .args .vertices
-leaves c =
-    let a = c .before .before .before .before .before .before .pre in
-    edge-from (a .0 .hung .counted .can .held) (a .1) (c .wide .ensures ∙ c .before .edge-word .ensures) .1
+-- places of the code, seen from where the edge's second end is known: the sum's two parts, where closed words begin, the start
+abbrev at-weight : tie.After-wide2 → tie.After-weight-of
+at-weight c = c .before .before
 
--- its sum, where that vertex is closed
-sum : (c : tie.After-wide4)
-    → let g = c .before .before .before .before in
-    let a = g .before .before .before .before .before .before .before .before .before .before .args in
-    Sum (a .vertices) (a .edges) (a .words .now) (a .tree .now) (a .costs .now) (a .edge) (g .before .before .before .before .before .before .closed-at .result)
-    (c .wide4 .result)
-    (g .wide2 .result + c .before .before .wide3 .result)
-sum c =
-    let g = c .before .before .before .before in
-    let f = g .before .before in
-    let b = f .before .before .before .before in
-    let a = b .before .before .before .before .pre in
-    sums (a .0) (a .1) (b .closed-at .ensures) (f .before .before .wide .ensures ∙ f .before .before .before .edge-word .ensures) (f .if1 .left)
-    (c .wide4 .ensures ∙ c .before .edge-word3 .ensures)
-    (g .wide2 .ensures ∙ g .before .evaluation .ensures)
-    (c .before .before .wide3 .ensures ∙ c .before .before .before .edge-word2 .ensures)
+abbrev at-evaluation : tie.After-weight-of → tie.After-evaluation
+at-evaluation c = c .before .before
 
-shared-slice-read-word : tie.Need-shared-slice-read-word
-shared-slice-read-word c =
-    let f = c .before .before .before in
-    omega (arith, leaves (c .before), f .closed-at .ensures, f .before .before .before .before .pre .0 .hung .counted .can .len)
+abbrev at-closed : tie.After-wide2 → tie.After-closed-at
+at-closed c = at-evaluation (at-weight c) .before .before .before .before .before
 
-returns : tie.Need-returns
-returns c =
-    let f = c .before .before .before .before in
-    let a = f .before .before .before .before .pre in
-    sym (onward-open (a .0) (a .1) (f .closed-at .ensures) (c .before .before .wide .ensures ∙ c .before .before .before .edge-word .ensures) (c .if1 .taken))
+abbrev at-start : tie.After-wide2 → tie.Start
+at-start c = at-closed c .before .before .before .before
 
-evaluation-requires : tie.Need-evaluation-requires
-evaluation-requires c κs =
-    let f = c .before .before .before .before in
-    closer-words (f .before .before .before .before .pre .0) (f .closed-at .ensures) (leaves (c .before .before)) (c .if1 .left)
-
-shared-slice-read-reached : tie.Need-shared-slice-read-reached
-shared-slice-read-reached c =
-    let w = sum (c .before) in
-    omega (arith, w .enters, w .words, w .on .hung .counted .can .len)
-
-evaluation-requires-2 : tie.Need-evaluation-requires-2
-evaluation-requires-2 c κs =
-    let w = sum (c .before .before) in
-    closer-words (w .on) (w .words) (w .enters) (c .if2 .taken)
-
-returns-2 : tie.Need-returns-2
-returns-2 c =
-    let f = c .before .before .before in
-    sym (onward-shut (sum (f .before .before)) (f .if2 .taken) (c .before .wide5 .ensures ∙ c .before .before .evaluation2 .ensures) (c .if3 .taken))
-
-shared-slice-read-wide : tie.Need-shared-slice-read-wide
-shared-slice-read-wide c =
-    let w = sum (c .before .before .before) in
-    omega (arith, w .enters, w .on .least .len, w .on .hung .counted .can .held .sized .vertices)
+-- the sum of the edge, where its first end is closed
+sum : (c : tie.After-wide2) → let a = at-start c .args in let w = at-weight c in
+    Sum (a .vertices) (a .edges) (a .words .now) (a .tree .now) (a .costs .now) (a .edge) (at-closed c .closed-at .result) (c .wide2 .result)
+    (at-evaluation w .evaluation .result + w .weight-of .result)
+sum c = search sums
 
 returns-3 : tie.Need-returns-3
 returns-3 c =
-    let f = c .before .before in
-    onward-waits (sum (f .before .before)) (c .wide6 .ensures)
-    (elim (f .if2 .came) [ inl y ↦ inr (y .0 .taken, omega (arith, y .1 .ensures, y .2 .ensures, y .3 .left)) | inr y ↦ inl (y .left) ])
+    let f = c .before in
+    onward-waits (sum (f .before .before))
+    (elim (f .if2 .came) [ inl y ↦ inr (y .0 .taken, omega (arith, y .1 .ensures, y .2 .left)) | inr y ↦ inl (y .left) ])
 
 pub edge-leads-on-spec : {M : Type 1} → statement M
 edge-leads-on-spec =
@@ -83,24 +42,21 @@ edge-leads-on-spec =
     (λ c κs. search needs)
     (λ c. search needs)
     (λ c. search needs)
-    shared-slice-read-word
-    returns
+    (λ c. search onward-place)
+    (λ c. search onward-open)
     (λ c. search needs)
-    evaluation-requires
+    (λ c κs. search onward-closer)
     (λ c κs. search needs)
+    (λ c κs. search needs)
+    (λ c. record { fits = search sum-fits })
     (λ c κs. search needs)
     (λ c κs. search needs)
     (λ c. search needs)
-    (λ c κs. search needs)
-    (λ c κs. search needs)
     (λ c. search needs)
+    (λ c. reached-place (sum (c .before)))
     (λ c. search needs)
-    shared-slice-read-reached
+    (λ c κs. reached-closer (sum (c .before .before)) (c .if2 .taken))
+    (λ c. let f = c .before .before in onward-shut (sum (f .before .before)) (f .if2 .taken) (c .before .evaluation2 .ensures) (c .if3 .taken))
     (λ c. search needs)
-    evaluation-requires-2
-    (λ c κs. search needs)
-    returns-2
-    (λ c. search needs)
-    shared-slice-read-wide
-    (λ c κs. search needs)
+    (λ c. has-least (sum (c .before .before .before)))
     returns-3)

@@ -12,18 +12,6 @@ Inv-loop words vertices edges tree used i₀ i = HangTo vertices edges words tre
 abbrev μ-loop : tie.MeasureT-loop
 μ-loop words vertices edges tree used i₀ i = used - i
 
-loop-holds : tie.Need-loop-holds Inv-loop μ-loop
-loop-holds c = search hang-none
-
-returns : tie.Need-returns Inv-loop μ-loop
-returns c = search hang-fails
-
-loop-again : tie.Need-loop-again Inv-loop μ-loop
-loop-again c = search hang-more
-
-returns-2 : tie.Need-returns-2 Inv-loop μ-loop
-returns-2 c = search hang-all
-
 pub nodes-hang-spec : {M : Type 1} → statement M
 nodes-hang-spec =
     tie.close
@@ -32,10 +20,10 @@ nodes-hang-spec =
     μ-loop
     (λ c. search needs)
     (λ c κs. search needs)
-    loop-holds
+    (λ c. hang-none _ _ _ _)
     (λ c κs. search needs)
-    returns
+    (λ c. search hang-fails)
     (λ c. search needs)
     (λ c. search needs)
-    loop-again
-    returns-2)
+    (λ c. search hang-more)
+    (λ c. search hang-all))

@@ -13,19 +13,26 @@ few c = search few-edges
 add-if3 : tie.Need-add-if3
 add-if3 c = omega (arith, few (c .before .before))
 
+-- places of the code, seen from the test of the count of nodes: the test of the closed words, of the queue words, their check, the start
+abbrev at-if2 : tie.Else3 → tie.Else2
+at-if2 c = c .before .before .before .before
+
+abbrev at-if1 : tie.Else3 → tie.Else1
+at-if1 c = at-if2 c .before .before
+
+abbrev at-queue : tie.Else3 → tie.After-queue-is-sound
+at-queue c = at-if1 c .before .before .before .before .before
+
+abbrev at-start : tie.Else3 → tie.Start
+at-start c = at-queue c .before .before .before .before .before .before .before
+
 root-is-reached-requires : tie.Need-root-is-reached-requires
-root-is-reached-requires c κs =
-    let i = c .before .before .before .before .before .before .before in
-    let q = i .before .before .before .before .before in
-    root-marked (q .before .before .before .before .before .before .before .pre .0) (q .queue-is-sound .ensures) (i .if1 .left)
+root-is-reached-requires c κs = let k = c .before in root-marked (at-start k .pre .0) (at-queue k .queue-is-sound .ensures) (at-if1 k .if1 .left)
 
 edges-lead-on-requires : tie.Need-edges-lead-on-requires
 edges-lead-on-requires c κs =
-    let j = c .before .before .before .before .before .before .before .before in
-    let i = j .before .before in
-    let q = i .before .before .before .before .before in
-    leads-on (q .before .before .before .before .before .before .before .pre .0) (q .queue-is-sound .ensures) (i .if1 .left)
-    (j .before .closed-are-sound .ensures) (j .if2 .left)
+    let k = c .before .before .before .before in
+    leads-on (at-start k .pre .0) (at-queue k .queue-is-sound .ensures) (at-if1 k .if1 .left) (at-if2 k .before .closed-are-sound .ensures) (at-if2 k .if2 .left)
 
 pub queue-and-edges-are-sound-spec : {M : Type 1} → statement M
 queue-and-edges-are-sound-spec =

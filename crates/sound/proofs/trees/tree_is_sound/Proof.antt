@@ -6,40 +6,26 @@ use Rattle.sound.proofs.TreeTests.{tree-fails, counted, has-areas, hung
 use Rattle.sound.proofs.trees.tree_is_sound.Statement.{statement}
 use Rattle.sound.proofs.trees.tree_is_sound.Tie as tie
 
-returns : tie.Need-returns
-returns c = tree-fails (c .before .before .before .before .pre) 0 (c .before .counts-are-sound .ensures) (c .if1 .taken)
-
-returns-2 : tie.Need-returns-2
-returns-2 c = tree-fails (c .before .before .before .before .before .before .pre) 1 (c .before .root-is-sound .ensures) (c .if2 .taken)
-
-returns-3 : tie.Need-returns-3
-returns-3 c = tree-fails (c .before .before .before .before .before .before .before .before .pre) 2 (c .before .nodes-hang .ensures) (c .if3 .taken)
-
 queue-and-edges-are-sound-requires : tie.Need-queue-and-edges-are-sound-requires
 queue-and-edges-are-sound-requires c κs =
-    let k = c .before .before in
-    let j = k .before .before in
-    let i = j .before .before in (
-      hung (i .before .before .before .before .pre) (i .before .counts-are-sound .ensures) (i .if1 .left) (j .before .root-is-sound .ensures) (j .if2 .left)
-          (k .before .nodes-hang .ensures) (k .if3 .left),
+    let at-if3 = c .before .before in
+    let at-if2 = at-if3 .before .before in
+    let at-if1 = at-if2 .before .before in (
+      hung (at-if1 .before .before .before .before .pre) (at-if1 .before .counts-are-sound .ensures) (at-if1 .if1 .left) (at-if2 .before .root-is-sound .ensures)
+          (at-if2 .if2 .left) (at-if3 .before .nodes-hang .ensures) (at-if3 .if3 .left),
       (refl, refl),
     )
-
-returns-4 : tie.Need-returns-4
-returns-4 c =
-    let q = c .before .before .before in
-    tree-fails (q .before .before .before .before .before .before .before .before .before .before .before .pre) 3 (q .queue-and-edges-are-sound .ensures) (c .if4 .taken)
 
 pub tree-is-sound-spec : {M : Type 1} → statement M
 tree-is-sound-spec =
     tie.close
     (tie.spec
     (λ c κs. search needs)
-    returns
+    (λ c. search (tree-fails 0))
     (λ c κs. search counted)
-    returns-2
+    (λ c. search (tree-fails 1))
     (λ c κs. search counted)
-    returns-3
+    (λ c. search (tree-fails 2))
     (λ c. search needs)
     (λ c. search needs)
     (λ c. search needs)
@@ -47,6 +33,6 @@ tree-is-sound-spec =
     (λ c. search needs)
     (λ c. search needs)
     queue-and-edges-are-sound-requires
-    returns-4
+    (λ c. search (tree-fails 3))
     (λ c κs. search has-areas)
     (λ c. search tree-last))

@@ -6,18 +6,18 @@ use Rattle.tree.proofs.Goals.{goal-open, goal-node, goal-first, held-no
 use Rattle.tree.proofs.partial_keyed_closed_set.cheaper_goal.Statement.{statement}
 use Rattle.tree.proofs.partial_keyed_closed_set.cheaper_goal.Tie as tie
 
-evaluation-requires : tie.Need-evaluation-requires
-evaluation-requires c κs = search (node-fits, goal-node)
+solution-cost-requires : tie.Need-solution-cost-requires
+solution-cost-requires c κs = search (node-fits, goal-node)
 
-evaluation-requires-2 : tie.Need-evaluation-requires-2
-evaluation-requires-2 c κs = search (node-fits, held-node)
+solution-cost-requires-2 : tie.Need-solution-cost-requires-2
+solution-cost-requires-2 c κs = search (node-fits, held-node)
 
 returns : tie.Need-returns
 returns c =
     let b = c .before .before .before .before in
     let n = b .before .before .before in
-    let a = n .before .before .before .before in
-    goal-cheaper _ (a .pre .0) (a .pre .1 .0) (n .before .before .status .ensures) (n .node .given .1) (a .pre .1 .1) (b .best .given .1) (c .before .before .evaluation .ensures) (c .before .evaluation2 .ensures) (c .if1 .taken)
+    let a = n .before .before .before .before .before in
+    goal-cheaper _ (a .pre .0) (a .pre .1 .0) (n .before .before .status .ensures) (n .node .given .1) _ (a .pre .1 .1) (b .best .given .1) (c .before .before .solution-cost .ensures) (c .before .solution-cost2 .ensures) (c .if1 .taken)
 
 returns-2 : tie.Need-returns-2
 returns-2 c = search goal-open
@@ -37,8 +37,8 @@ cheaper-goal-spec =
     (λ c. search needs)
     (λ c. search needs)
     (λ c. search needs)
-    evaluation-requires
-    evaluation-requires-2
+    solution-cost-requires
+    solution-cost-requires-2
     returns
     returns-2
     returns-3

@@ -3,15 +3,16 @@
 use Prim.Native.Nat.{_-_}
 use borrow.Author.Needs.{needs}
 use lib.ListN.{length}
+use Rattle.layout.specs.Read.{readCache}
 use Rattle.tree.proofs.Goals.{Cheapest, cheapest-none, cheapest-more, cheapest-all}
 use Rattle.tree.proofs.partial_keyed_closed_set.cheapest_goal.Statement.{statement}
 use Rattle.tree.proofs.partial_keyed_closed_set.cheapest_goal.Tie as tie
 
 abbrev Inv-loop : tie.InvT-loop
-Inv-loop tree edges goals best₀ i₀ best i = Cheapest edges tree goals best i
+Inv-loop words tree edges goals best₀ i₀ best i = Cheapest (readCache words .domain) edges tree goals best i
 
 abbrev μ-loop : tie.MeasureT-loop
-μ-loop tree edges goals best₀ i₀ best i = length goals - i
+μ-loop words tree edges goals best₀ i₀ best i = length goals - i
 
 loop-holds : tie.Need-loop-holds Inv-loop μ-loop
 loop-holds c = search cheapest-none
@@ -19,7 +20,7 @@ loop-holds c = search cheapest-none
 cheaper-goal-requires : tie.Need-cheaper-goal-requires Inv-loop μ-loop
 cheaper-goal-requires c κs =
     let t = c .before .before in
-    let a = t .before .before .before .before in
+    let a = t .before .before .before .before .before in
     (a .pre .0, (rw (c .wide .ensures) (a .pre .1 _ (t .loop-test .taken)), t .before .loop .inv .node))
 
 loop-again : tie.Need-loop-again Inv-loop μ-loop

@@ -1,0 +1,59 @@
+-- `plan_root` meets its contract.
+-- Assumes nothing.
+use mathlib.Core.Path.{refl}
+use borrow.Author.Needs.{needs}
+use Rattle.new_trees.proofs.PlanRoot.{plan-skips, plan-shares, plan-plants}
+use Rattle.new_trees.proofs.plan_root.Statement.{statement}
+use Rattle.new_trees.proofs.plan_root.Tie as tie
+
+-- the cost of the root was read, and then the table
+abbrev at-start : tie.After-root-cost → tie.Start
+at-start r = r .before .before .before .before
+
+abbrev at-cost : tie.After-slice-known2 → tie.After-root-cost
+at-cost t = t .before .before .before .before
+
+returns : tie.Need-returns
+returns c = let r = c .before in plan-skips (at-start r .pre) (r .before .wide .ensures) (r .root-cost .ensures) (c .if1 .taken)
+
+returns-2 : tie.Need-returns-2
+returns-2 c =
+    let t = c .before .before .before in
+    let r = at-cost (t .before) in
+    plan-shares (at-start r .pre) (r .before .wide .ensures) (r .root-cost .ensures) (t .before .before .before .before .if1 .left)
+    (t .before .before .wide2 .ensures) refl (t .if2 .taken) (c .before .wide3 .ensures) (c .with-entry .ensures)
+
+returns-3 : tie.Need-returns-3
+returns-3 c =
+    let t = c .before .before .before .before in
+    let r = at-cost (t .before) in
+    plan-plants (at-start r .pre) (r .before .wide .ensures) (r .root-cost .ensures) (t .before .before .before .before .if1 .left)
+    (t .before .before .wide2 .ensures) refl (t .if2 .left) (c .before .before .header .ensures) (c .before .wide4 .ensures) (c .with-entry2 .ensures)
+
+pub plan-root-spec : {M : Type 1} → statement M
+plan-root-spec =
+    tie.close
+    (tie.spec
+    (λ c κs. search needs)
+    (λ c κs. search needs)
+    returns
+    (λ c κs. search needs)
+    (λ c. search needs)
+    (λ c. search needs)
+    (λ c. search needs)
+    (λ c κs. search needs)
+    (λ c κs. search needs)
+    returns-2
+    (λ c κs. search needs)
+    (λ c. search needs)
+    (λ c. search needs)
+    (λ c. search needs)
+    (λ c. search needs)
+    (λ c. search needs)
+    (λ c κs. search needs)
+    (λ c. search needs)
+    (λ c. search needs)
+    (λ c κs. search needs)
+    (λ c. search needs)
+    (λ c. search needs)
+    returns-3)

@@ -1,0 +1,73 @@
+-- `order_lines::answers::put_answer` meets its contract.
+-- Assumes nothing.
+use mathlib.Core.Path.{sym}
+use native.Mathlib.Omega.{arith}
+use borrow.Author.Needs.{needs}
+use Rattle.put_text.proofs.Puts.{puts-then}
+use Rattle.put_text.proofs.Decimals.{decimal-length}
+use Rattle.order_lines.proofs.Words.{refused-length}
+use Rattle.order_lines.proofs.answers.put_answer.Statement.{statement}
+use Rattle.order_lines.proofs.answers.put_answer.Tie as tie
+
+-- the start of a refused order's fields, seen from behind the first
+abbrev start : tie.After-put-refused-by → tie.Start
+start c = c .before .before .before .before .before .before
+
+put-field-requires : tie.Need-put-field-requires
+put-field-requires c κs =
+    let p = c .before .before .before .before in
+    let s = p .before .before .before .before .before .before .before in
+    omega (arith, s .pre, p .put-bytes .ensures .end, p .put-bytes .kept .0, decimal-length (c .wide .result))
+
+put-bytes-requires-3 : tie.Need-put-bytes-requires-3
+put-bytes-requires-3 c κs =
+    let p = c .before .before .before .before in
+    let s = start p in
+    omega (arith, s .pre, p .put-refused-by .ensures .end, p .put-refused-by .kept .0, refused-length (p .before .before .before .answer2 .given .0 .0))
+
+returns : tie.Need-returns
+returns c =
+    let w = c .before .before .before in
+    let p = w .before .before .before .before in
+    let told = p .before .before .before .before in
+    rw (told .answer .given .1, sym (w .wide .ensures))
+    (puts-then (omega (arith, told .before .before .before .pre)) (p .put-bytes .ensures) (c .before .before .put-field .ensures))
+
+returns-2 : tie.Need-returns-2
+returns-2 c = rw (c .before .before .before .before .before .enum-told .given .1) (c .before .before .put-bytes2 .ensures)
+
+returns-3 : tie.Need-returns-3
+returns-3 c =
+    let p = c .before .before .before .before .before .before .before in
+    rw (p .before .before .before .answer2 .given .1) (puts-then (omega (arith, start p .pre)) (p .put-refused-by .ensures) (c .before .before .put-bytes3 .ensures))
+
+returns-4 : tie.Need-returns-4
+returns-4 c = rw (c .before .before .before .before .before .enum-told2 .given .1) (c .before .before .put-bytes4 .ensures)
+
+pub put-answer-spec : {M : Type 1} → statement M
+put-answer-spec =
+    tie.close
+    (tie.spec
+    (λ c. search needs)
+    (λ c. search needs)
+    (λ c κs. search needs)
+    (λ c κs. search needs)
+    put-field-requires
+    (λ c. search needs)
+    (λ c. search needs)
+    (λ c κs. search needs)
+    (λ c. search needs)
+    (λ c κs. search needs)
+    (λ c. search needs)
+    put-bytes-requires-3
+    (λ c. search needs)
+    (λ c. search needs)
+    (λ c κs. search needs)
+    (λ c. search needs)
+    returns
+    (λ c. search needs)
+    returns-2
+    (λ c. search needs)
+    returns-3
+    (λ c. search needs)
+    returns-4)

@@ -1,0 +1,39 @@
+-- `order_lines::answers::put_spaced` meets its contract.
+-- Assumes nothing.
+use native.Mathlib.Omega.{arith}
+use borrow.Author.Needs.{needs}
+use Rattle.put_text.proofs.Decimals.{decimal-length}
+use Rattle.put_text.proofs.Puts.{puts-then}
+use Rattle.order_lines.proofs.Words.{spaced-later}
+use Rattle.order_lines.proofs.answers.put_spaced.Statement.{statement}
+use Rattle.order_lines.proofs.answers.put_spaced.Tie as tie
+
+put-word-requires : tie.Need-put-word-requires
+put-word-requires c κs = let s = c .before .before .before in omega (arith, s .pre, decimal-length (s .args .word))
+
+returns : tie.Need-returns
+returns c = rw (c .before .before .before .before .if1 .taken) (c .before .before .put-word .ensures)
+
+put-word-requires-2 : tie.Need-put-word-requires-2
+put-word-requires-2 c κs =
+    let a = c .before .before .before in
+    let s = a .before .before .before .before in
+    omega (arith, s .pre, a .put-byte .ensures .end, a .put-byte .kept .0, decimal-length (s .args .word))
+
+returns-2 : tie.Need-returns-2
+returns-2 c =
+    let a = c .before .before .before .before .before .before in
+    rw (spaced-later _ _ (a .before .before .if1 .left))
+    (puts-then (omega (arith, a .before .before .before .before .pre)) (a .put-byte .ensures) (c .before .before .put-word2 .ensures))
+
+pub put-spaced-spec : {M : Type 1} → statement M
+put-spaced-spec =
+    tie.close
+    (tie.spec
+    put-word-requires
+    (λ c. search needs)
+    returns
+    (λ c κs. search needs)
+    put-word-requires-2
+    (λ c. search needs)
+    returns-2)

@@ -1,0 +1,176 @@
+-- What the functions that print a sheet promise each other: the bytes of each line, and the caches left.
+-- Assumes nothing.
+use mathlib.Core.Path.{_≡_}
+use mathlib.Core.Bool.{true}
+use mathlib.Core.List.{List, [], _++_}
+use Prim.Native.Nat.{ℕ, _<_, _≤_}
+use lib.ListN.{length, drop}
+use Rattle.model.specs.declared.OpenAnswer.the-variants.{Opened}
+use Rattle.model.specs.Answers.{answered, refused, stepReply}
+use Rattle.model.specs.Graph.{Graph, Accepted, Direction, forward, backward}
+use Rattle.model.specs.Calls.{opened, initialize}
+use Rattle.model.specs.Demands.{Call, afterAll}
+use Rattle.text.specs.Read.{readGraph}
+use Rattle.layout.specs.Read.{directionOf, readCache}
+use Rattle.layout.specs.Sound.{soundWordsb}
+use Rattle.cache.specs.Open.{Opening}
+use Rattle.model.specs.declared.StepsTaken.{StepsTaken}
+use Rattle.model.specs.Solve.{AfterSteps}
+use Rattle.order_lines.specs.declared.orders.Numbers.{Numbers}
+use Rattle.order_lines.specs.declared.orders.Form.{Form}
+use Rattle.order_lines.specs.declared.orders.Form.the-variants.{Forward, Backward, Illegal}
+use Rattle.order_lines.specs.declared.orders.Order.{Order}
+use Rattle.order_lines.specs.Orders.{orderOf}
+use Rattle.order_lines.specs.Answers.{refusedLine}
+use Rattle.put_text.specs.Puts.{Puts}
+use Rattle.order_sheet.specs.Orders.{ordered, refusedOrder, RightLine}
+use Rattle.order_sheet.specs.Whole.{maxBytes, lentWords, lentSlots, listed, Caches, linesText, sheetText}
+use Rattle.order_sheet.specs.declared.Part.{Part}
+use Rattle.order_sheet.specs.declared.files.Bytes.{Bytes}
+use Rattle.order_sheet.specs.declared.files.Bytes.the-variants.{Count, Failed}
+
+-- an order's number, and the bytes lent for its line
+pub record CanPut (n : ℕ) (out : List ℕ) : Type 0 where
+  pub order : n ≤ maxBytes
+  pub room : 24576 ≤ length out
+
+-- a list's numbers are counted within its array
+pub record InArrays (ss gs : Numbers) : Type 0 where
+  pub starts : ss .count ≤ length (ss .numbers)
+  pub goals : gs .count ≤ length (gs .numbers)
+
+-- the counts of an order are numbers of at most 10 digits
+pub record CountsFit (d : StepsTaken) : Type 0 where
+  pub waits : d .waits < 10000000000
+  pub tickets : d .tickets < 10000000000
+
+-- the bytes read are within the space lent
+abbrev pub Within : Bytes → List ℕ → Type 0
+Within (Count n) space = n ≤ length space
+Within Failed space = Unit {0}
+
+-- ---- the orders, in words
+
+-- what some steps came to, with the cache that the words left hold
+abbrev pub afterSteps : StepsTaken → List ℕ → AfterSteps
+afterSteps r left = record { cache = readCache left; search = r .search; reply = stepReply (r .answer); waits = r .waits; tickets = r .tickets }
+
+-- order i from ss to gs in the words ws: its text stands at the start of out, and r is its length
+pub record Ran (ws : List ℕ) (i : ℕ) (ss gs out : List ℕ) (r : ℕ) (left out′ : List ℕ) : Type 0 where
+  pub text : Puts out 0 (ordered i (readCache ws) ss gs .text) r out′
+  pub cache : readCache left ≡ ordered i (readCache ws) ss gs .cache
+  pub sound : soundWordsb left ≡ true
+
+-- an order goes to the words of its direction, fs forward or bs backward; the others stay
+pub record RanIn (ws ws′ : List ℕ) (i : ℕ) (o : Order) (out : List ℕ) (r : ℕ) (left left′ out′ : List ℕ) : Type 0 where
+  pub ran : Ran ws i (listed (o .starts)) (listed (o .goals)) out r left out′
+  pub stays : left′ ≡ ws′
+
+pub record NotRun (fs bs : List ℕ) (i : ℕ) (out : List ℕ) (r : ℕ) (fs′ bs′ out′ : List ℕ) : Type 0 where
+  pub text : Puts out 0 (refusedOrder i 1) r out′
+  pub forward : fs′ ≡ fs
+  pub backward : bs′ ≡ bs
+
+abbrev pub RanBy : Form → List ℕ → List ℕ → ℕ → Order → List ℕ → ℕ → List ℕ → List ℕ → List ℕ → Type 0
+RanBy Forward fs bs i o out r fs′ bs′ out′ = RanIn fs bs i o out r fs′ bs′ out′
+RanBy Backward fs bs i o out r fs′ bs′ out′ = RanIn bs fs i o out r bs′ fs′ out′
+RanBy Illegal fs bs i o out r fs′ bs′ out′ = NotRun fs bs i out r fs′ bs′ out′
+
+-- an order's line l
+abbrev pub RanLine : List ℕ → List ℕ → ℕ → List ℕ → List ℕ → ℕ → List ℕ → List ℕ → List ℕ → Type 0
+RanLine fs bs i l out r fs′ bs′ out′ = RanBy (orderOf l .form) fs bs i (orderOf l) out r fs′ bs′ out′
+
+-- ---- what is printed is right: of an order that was run in words which hold a cache after any calls, by nothing but the promise
+
+-- the words hold the cache that an accepted graph was opened as, after calls
+pub record Called (dir : Direction) (g : Graph) (t : ℕ) (ws : List ℕ) : Type 0 where
+  pub accepted : Accepted g
+  pub calls : List Call
+  pub cache : readCache ws ≡ afterAll (opened dir g t) calls
+  pub sound : soundWordsb ws ≡ true
+
+-- a refused order prints the number of its refusal, another one a right line; and the next order finds such words again
+pub record PrintsRight (dir : Direction) (g : Graph) (t i : ℕ) (ws ss gs left text : List ℕ) : Type 0 where
+  pub refusal : (n line : ℕ) → initialize (readCache ws) ss gs .reply ≡ refused n line → text ≡ refusedOrder i n
+  pub answer : initialize (readCache ws) ss gs .reply ≡ answered tt → RightLine dir g ss gs i text
+  pub next : Called dir g t left
+
+abbrev pub LinesAreRight : Type 0
+LinesAreRight =
+    (dir : Direction) (g : Graph) (t i : ℕ) (ws ss gs out : List ℕ) (r : ℕ) (left out′ : List ℕ) → Called dir g t ws → Ran ws i ss gs out r left out′
+    → (text : List ℕ) × (Puts out 0 text r out′ × PrintsRight dir g t i ws ss gs left text)
+
+-- both directions' words, of one graph
+pub record CalledBoth (fs bs : List ℕ) : Type 0 where
+  pub graph : Graph
+  pub forward : Called forward graph lentSlots fs
+  pub backward : Called backward graph lentSlots bs
+
+-- an opened cache is such a one
+abbrev pub OpensCalled : Type 0
+OpensCalled =
+    (ws text : List ℕ) (d t : ℕ) (left : List ℕ) → Opening ws text d t Opened left
+    → (g : Graph) × ((readGraph text ≡ answered g) × Called (directionOf d) g t left)
+
+-- ---- the sheet, part by part
+
+abbrev pub cachesIn : List ℕ → List ℕ → Caches
+cachesIn fs bs = record { forward = readCache fs; backward = readCache bs }
+
+-- the words lent, and the bytes for a line
+pub record CanBegin (fs bs out : List ℕ) : Type 0 where
+  pub forward : length fs ≡ lentWords
+  pub backward : length bs ≡ lentWords
+  pub room : 24576 ≤ length out
+
+-- an order is left at the place of p: its number is no greater than the place, and the words hold caches of one graph after calls
+pub record CanGoOn (orders fs bs : List ℕ) (p : Part) : Type 0 where
+  pub few : length orders ≤ maxBytes
+  pub number : p .order ≤ p .at
+  pub called : CalledBoth fs bs
+
+-- the text of a part stands at the start of out; what is left of the sheet are the lines of the orders from its place on
+pub record PutsPart (orders out whole : List ℕ) (p : Part) (fs bs out′ : List ℕ) : Type 0 where
+  pub text : List ℕ
+  pub put : Puts out 0 text (p .bytes) out′
+  pub rest : whole ≡ text ++ linesText (p .order) (cachesIn fs bs) (drop (p .at) orders)
+  pub within : p .at ≤ length orders
+  pub next : p .at < length orders → CanGoOn orders fs bs p
+
+-- a line `refused n`, and no order is left
+pub record RefusedPart (orders out : List ℕ) (n : ℕ) (p : Part) (out′ : List ℕ) : Type 0 where
+  pub put : Puts out 0 (refusedLine n) (p .bytes) out′
+  pub end : p .at ≡ length orders
+
+-- the first part: the title, or the only line of a sheet that is refused
+abbrev pub Begins : List ℕ → List ℕ → List ℕ → Part → List ℕ → List ℕ → List ℕ → Type 0
+Begins chart orders out p fs bs out′ = PutsPart orders out (sheetText chart orders) p fs bs out′
+
+pub record CanPutNext (orders fs bs out : List ℕ) (p : Part) : Type 0 where
+  pub left : p .at < length orders
+  pub can : CanGoOn orders fs bs p
+  pub room : 24576 ≤ length out
+
+-- the part of the order at the place of p
+pub record PutsNext (orders fs bs out : List ℕ) (p q : Part) (fs′ bs′ out′ : List ℕ) : Type 0 where
+  pub part : PutsPart orders out (linesText (p .order) (cachesIn fs bs) (drop (p .at) orders)) q fs′ bs′ out′
+  pub further : p .at < q .at
+
+-- so the parts one after the other are the sheet: some were written, and p is the last of them
+pub record WrittenSoFar (chart orders fs bs : List ℕ) (p : Part) : Type 0 where
+  pub before : List ℕ
+  pub rest : sheetText chart orders ≡ before ++ linesText (p .order) (cachesIn fs bs) (drop (p .at) orders)
+  pub within : p .at ≤ length orders
+  pub next : p .at < length orders → CanGoOn orders fs bs p
+
+-- the texts of parts, from the place of p to the end of the orders
+pub data Parts (orders : List ℕ) : List ℕ → List ℕ → Part → List ℕ → Type 0 where
+  no-more : {fs bs : List ℕ} {p : Part} → p .at ≡ length orders → Parts orders fs bs p []
+  one-more : {fs bs out fs′ bs′ out′ rest : List ℕ} {p q : Part} (x : PutsNext orders fs bs out p q fs′ bs′ out′) → Parts orders fs′ bs′ q rest
+      → Parts orders fs bs p (x .part .text ++ rest)
+
+-- the first part and those after it, written one after the other, are the whole sheet
+abbrev pub WritesSheet : Type 0
+WritesSheet =
+    (chart orders out : List ℕ) (p : Part) (fs bs out′ rest : List ℕ) (x : Begins chart orders out p fs bs out′) → Parts orders fs bs p rest
+    → x .text ++ rest ≡ sheetText chart orders

@@ -1,0 +1,13 @@
+-- Laws that belong to no one function.
+pub mod Nodes
+pub mod Finished
+pub mod Advanced
+pub mod Records
+pub mod Goals
+pub mod Opened
+pub mod Initialized
+pub mod RetracedNode
+pub mod Retraced
+pub mod Waits
+pub mod Solved
+pub mod Underway

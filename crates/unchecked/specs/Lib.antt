@@ -1,0 +1,4 @@
+pub mod Initialize
+pub mod Step
+pub mod Solve
+pub mod Retrace
