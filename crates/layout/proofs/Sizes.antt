@@ -4,12 +4,17 @@ use mathlib.Core.Path.{_≡_, ap}
 use Prim.Native.Nat.{ℕ, _+_, _*_, _≤_}
 use native.Mathlib.Omega.{arith}
 use native.Mathlib.Nat.{mul-le-mul-left}
+use Rattle.model.specs.Limits.{vertexLimit, edgeLimit, slotLimit}
 use Rattle.layout.specs.Layout.{Sized, treeWords, needed}
 
+-- the words of all slots, at the most
+abbrev pub slotsMost : ℕ
+slotsMost = slotLimit * treeWords vertexLimit edgeLimit
+
 -- they fit a machine's number
-pub slots-fit : {m l t : ℕ} → Sized m l → t ≤ 64 → t * treeWords m l ≤ 64 * 11272
+pub slots-fit : {m l t : ℕ} → Sized m l → t ≤ slotLimit → t * treeWords m l ≤ slotsMost
 slots-fit {m} {l} {t} s h =
-    let a : t * treeWords m l ≤ t * 11272 = mul-le-mul-left t (omega (arith, s .vertices, s .edges)) in
+    let a : t * treeWords m l ≤ t * treeWords vertexLimit edgeLimit = mul-le-mul-left t (omega (arith, s .vertices, s .edges)) in
     omega arith
 
 -- the formula of document 01

@@ -159,7 +159,7 @@ pub fn root_cost(words: &[u32], vertex: usize) -> u32
 }
 
 // A word of an edge, by its place among the edge's words.
-pub fn edge_word(words: &[u32], vertices: usize, edge: usize, place: usize) -> u32
+fn edge_word(words: &[u32], vertices: usize, edge: usize, place: usize) -> u32
     requires { ⌜ EdgeWord (length (now words)) vertices edge place ⌝ }
     ensures { λ r. ⌜ r ≡ getD (now (words .entry)) (edgeAt vertices edge + place) 0 ⌝ }
 {

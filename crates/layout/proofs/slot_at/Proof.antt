@@ -4,12 +4,12 @@ use borrow.Author.Needs.{needs}
 use native.Mathlib.Omega.{arith}
 use mathlib.Core.Path.{ap}
 use Prim.Native.Nat.{ℕ, _*_, _≤_}
-use Rattle.layout.proofs.Sizes.{slots-fit}
+use Rattle.layout.proofs.Sizes.{slotsMost, slots-fit}
 use Rattle.layout.proofs.slot_at.Statement.{statement}
 use Rattle.layout.proofs.slot_at.Tie as tie
 
 -- the slots' words in the terms of the code
-slots : (c : tie.After-tree-words) → c .before .before .args .slot * c .tree-words .result ≤ 721408
+slots : (c : tie.After-tree-words) → c .before .before .args .slot * c .tree-words .result ≤ slotsMost
 slots c =
     let e = ap (λ (n : ℕ). c .before .before .args .slot * n) (c .tree-words .ensures) in
     omega (arith, e, slots-fit (c .before .before .pre .0) (c .before .before .pre .1))
