@@ -19,18 +19,26 @@ abbrev μ-loop : tie.MeasureT-loop
 loop-holds : tie.Need-loop-holds Inv-loop μ-loop
 loop-holds c = (omega arith, omega arith, refl)
 
+-- a turn that reads a byte
+abbrev at-turn : tie.After-wide Inv-loop μ-loop → tie.In-loop Inv-loop μ-loop
+at-turn c = c .before .before
+
 returns : tie.Need-returns Inv-loop μ-loop
 returns c =
-    let at = c .before .before .before .before .loop in
-    sym (at .inv .2 ∙ digit-low _ _ _ _ (c .before .before .before .loop-test .taken) (c .before .wide .ensures) (c .if1 .taken))
+    let turn = at-turn (c .before) in
+    sym (turn .before .loop .inv .2 ∙ digit-low _ _ _ _ (turn .loop-test .taken) (c .before .wide .ensures) (c .if1 .taken))
 
 returns-2 : tie.Need-returns-2 Inv-loop μ-loop
 returns-2 c =
-    let at = c .before .before .before .before .before .loop in
-    sym (at .inv .2 ∙ digit-high _ _ _ _ (c .before .before .before .before .loop-test .taken) (c .before .before .wide .ensures) (c .if2 .taken))
+    let read = c .before .before in
+    let turn = at-turn read in
+    sym (turn .before .loop .inv .2 ∙ digit-high _ _ _ _ (turn .loop-test .taken) (read .wide .ensures) (c .if2 .taken))
 
-small : (c : tie.Else2 Inv-loop μ-loop) → c .before .before .before .before .before .loop .v < 10000000000
-small c = digits-fit _ _ (c .before .before .before .before .before .loop .inv .1) (omega arith)
+abbrev at-loop : tie.Else2 Inv-loop μ-loop → tie.At-loop Inv-loop μ-loop
+at-loop c = at-turn (c .before .before) .before
+
+small : (c : tie.Else2 Inv-loop μ-loop) → at-loop c .loop .v < 10000000000
+small c = digits-fit _ _ (at-loop c .loop .inv .1) (omega arith)
 
 mul-v : tie.Need-mul-v Inv-loop μ-loop
 mul-v c = omega (arith, small c)
@@ -40,11 +48,11 @@ add-v c = omega (arith, small c)
 
 loop-again : tie.Need-loop-again Inv-loop μ-loop
 loop-again c =
-    let at = c .before .before .before .before .before .loop in (
+    let read = c .before .before in
+    let at = at-loop c .loop in (
       omega arith,
       digits-more _ _ _ (at .inv .1) (c .if2 .left),
-      at .inv .2
-          ∙ digit-read _ _ _ _ (c .before .before .before .before .loop-test .taken) (c .before .before .wide .ensures) (c .before .if1 .left) (c .if2 .left),
+      at .inv .2 ∙ digit-read _ _ _ _ (at-turn read .loop-test .taken) (read .wide .ensures) (c .before .if1 .left) (c .if2 .left),
     )
 
 returns-3 : tie.Need-returns-3 Inv-loop μ-loop

@@ -19,11 +19,14 @@ abbrev μ-loop : tie.MeasureT-loop
 loop-holds : tie.Need-loop-holds Inv-loop μ-loop
 loop-holds c = (omega arith, λ k l. absurd (omega arith))
 
+abbrev at-loop : tie.After-shared-slice-known Inv-loop μ-loop → tie.At-loop Inv-loop μ-loop
+at-loop c = c .before .before
+
 returns : tie.Need-returns Inv-loop μ-loop
-returns c = sym (place-is _ _ _ (omega arith) (c .before .before .before .loop .inv .1) (λ l. c .if1 .taken))
+returns c = sym (place-is _ _ _ (omega arith) (at-loop (c .before) .loop .inv .1) (λ l. c .if1 .taken))
 
 loop-again : tie.Need-loop-again Inv-loop μ-loop
-loop-again c = (omega arith, below-more _ _ (c .before .before .before .loop .inv .1) (c .if1 .left))
+loop-again c = (omega arith, below-more _ _ (at-loop (c .before) .loop .inv .1) (c .if1 .left))
 
 returns-2 : tie.Need-returns-2 Inv-loop μ-loop
 returns-2 c = sym (place-is _ _ _ (c .before .loop .inv .0) (c .before .loop .inv .1) (λ l. absurd (omega arith)))

@@ -14,10 +14,13 @@ use Rattle.text.proofs.fields.read_field.Tie as tie
 returns : tie.Need-returns
 returns c = sym (value-hyphen _ (c .before .before .if1 .taken) (c .if2 .taken))
 
+abbrev start : tie.After-read-number → tie.Start
+start c = c .before .before .before
+
 -- the field is not `-`
-plain : (c : tie.After-read-number) → isOnly 45 (c .before .before .before .args .s .now) ≡ false
+plain : (c : tie.After-read-number) → isOnly 45 (start c .args .s .now) ≡ false
 plain c =
-    let s = c .before .before .before .args .s .now in
+    let s = start c .args .s .now in
     ⊎-elim (λ w. only-one 45 s (w .0 .taken) ∙ ne-eqb _ 45 (w .2 .left)) (λ w. only-other 45 s (w .left)) (c .before .if1 .came)
 
 returns-2 : tie.Need-returns-2

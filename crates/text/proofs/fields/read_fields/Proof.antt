@@ -17,10 +17,12 @@ abbrev μ-loop : tie.MeasureT-loop
 loop-holds : tie.Need-loop-holds Inv-loop μ-loop
 loop-holds c = rw (c .no-fields .ensures) (reading-start _ _)
 
+abbrev at-loop : tie.After-find Inv-loop μ-loop → tie.At-loop Inv-loop μ-loop
+at-loop c = c .before .before .before
+
 -- the field ends in the text
-within : (c : tie.After-find Inv-loop μ-loop)
-    → c .before .before .before .loop .at + c .find .result ≤ length (c .before .before .before .before .before .before .args .s .now)
-within c = reading-within (c .before .before .before .loop .inv) (c .before .before .loop-test .taken) (c .find .ensures)
+within : (c : tie.After-find Inv-loop μ-loop) → at-loop c .loop .at + c .find .result ≤ length (at-loop c .before .before .before .args .s .now)
+within c = reading-within (at-loop c .loop .inv) (c .before .before .loop-test .taken) (c .find .ensures)
 
 abbrev at-find : tie.After-with Inv-loop μ-loop → tie.After-find Inv-loop μ-loop
 at-find c = c .before .before .before
@@ -29,7 +31,7 @@ part-read-field-end : tie.Need-part-read-field-end Inv-loop μ-loop
 part-read-field-end c = omega (arith, within c)
 
 with-requires : tie.Need-with-requires Inv-loop μ-loop
-with-requires c κs = let found = c .before .before in omega (arith, within found, found .before .before .before .loop .inv .few)
+with-requires c κs = let found = c .before .before in omega (arith, within found, at-loop found .loop .inv .few)
 
 add-at : tie.Need-add-at Inv-loop μ-loop
 add-at c = omega (arith, within (at-find c))
@@ -43,7 +45,7 @@ loop-less c = omega (arith, within (at-find c))
 loop-again : tie.Need-loop-again Inv-loop μ-loop
 loop-again c =
     let found = at-find c in
-    reading-next (found .before .before .before .loop .inv) (found .before .before .loop-test .taken) (found .find .ensures) (c .before .read-field .ensures) (c .with .ensures)
+    reading-next (at-loop found .loop .inv) (found .before .before .loop-test .taken) (found .find .ensures) (c .before .read-field .ensures) (c .with .ensures)
 
 returns : tie.Need-returns Inv-loop μ-loop
 returns c = reading-end (c .before .loop .inv) (c .loop-test .left)

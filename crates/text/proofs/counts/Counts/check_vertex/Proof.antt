@@ -20,21 +20,26 @@ returns-2 c = rw (le-ltb _ _ (c .before .before .if1 .left), ne-eqb _ _ (c .if2 
 
 returns-3 : tie.Need-returns-3
 unfolding lineFaults
-returns-3 c = rw (le-ltb _ _ (c .before .before .before .before .if1 .left), eq-eqb _ _ (c .before .before .if2 .left), le-leb _ _ (c .if3 .taken))
+returns-3 c =
+    let second = c .before .before in
+    rw (le-ltb _ _ (second .before .before .if1 .left), eq-eqb _ _ (second .if2 .left), le-leb _ _ (c .if3 .taken))
 
 -- only the initial cost is left to check
-in-order : (c : tie.Else3) → firstFault (lineFaults (c .before .before .before .before .before .before .args .self) (Vertex (c .before .before .before .before .before .before .args .number) (c .before .before .before .before .before .before .args .initial))) ≡ orElse (dear (c .before .before .before .before .before .before .args .initial)) 4 none
+in-order : (c : tie.Else3) → let a = c .before .before .before .before .before .before .args in
+    firstFault (lineFaults (a .self) (Vertex (a .number) (a .initial))) ≡ orElse (dear (a .initial)) 4 none
 unfolding lineFaults
-in-order c = rw (le-ltb _ _ (c .before .before .before .before .if1 .left), eq-eqb _ _ (c .before .before .if2 .left), lt-leb _ _ (c .if3 .left))
+in-order c =
+    let second = c .before .before in
+    rw (le-ltb _ _ (second .before .before .if1 .left), eq-eqb _ _ (second .if2 .left), lt-leb _ _ (c .if3 .left))
 
 returns-4 : tie.Need-returns-4
 returns-4 c = rw (in-order (c .before .before), c .enum-told .given .1)
 
 returns-5 : tie.Need-returns-5
-returns-5 c = rw (in-order (c .before .before .before .before), c .before .before .initial .given .1, lt-ltb _ _ (c .if4 .taken))
+returns-5 c = let told = c .before .before in rw (in-order (told .before .before), told .initial .given .1, lt-ltb _ _ (c .if4 .taken))
 
 returns-6 : tie.Need-returns-6
-returns-6 c = rw (in-order (c .before .before .before .before), c .before .before .initial .given .1, le-ltb _ _ (c .if4 .left))
+returns-6 c = let told = c .before .before in rw (in-order (told .before .before), told .initial .given .1, le-ltb _ _ (c .if4 .left))
 
 pub check-vertex-spec : {M : Type 1} → statement M
 check-vertex-spec =
