@@ -11,7 +11,7 @@ use Rattle.model.specs.Calls.{AfterInitialize}
 use Rattle.layout.specs.Layout.{directionIn}
 use Rattle.layout.specs.Read.{directionOf, readCache}
 use Rattle.layout.specs.Sound.{soundWordsb}
-use Rattle.sound.proofs.Facts.{at-sound-words}
+use Rattle.sound.proofs.Facts.{sound-words-at, at-sound-words}
 use Rattle.unchecked.specs.Initialize.{initializedWords, Initializes, notOpened}
 use Rattle.dijkstra.specs.Calls.{initializeIf, Initializing}
 use Rattle.dijkstra.proofs.Histories.{initialize-is}
@@ -40,4 +40,16 @@ module _ (ws ss gs : List ℕ) where
         words = h .words ∙ sym (ap wordsAfter is);
         cache = h .cache ∙ sym (ap (λ (a : AfterInitialize). a .cache) is);
         sound = at-sound-words left (h .sound) ∙ sym ok;
+      }
+
+  -- and back
+  pub as-sound : soundWordsb ws ≡ true → (r : SearchOpened) (left : List ℕ) → Initializing ws ss gs r left → Initializes ws ss gs r left
+  as-sound ok r left h =
+      let is = initialize-is ws ok ss gs in
+      record {
+        answer = h .answer ∙ ap (λ (a : AfterInitialize). a .reply) is;
+        search = h .search ∙ ap (λ (a : AfterInitialize). a .search) is;
+        words = h .words ∙ ap wordsAfter is;
+        cache = h .cache ∙ ap (λ (a : AfterInitialize). a .cache) is;
+        sound = sound-words-at left (h .sound ∙ ok);
       }

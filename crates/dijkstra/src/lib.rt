@@ -32,7 +32,7 @@ pub fn retrace(words: &[u32], search: Search, path: &mut [u32]) -> RetraceAnswer
     ensures { λ r. ⌜ Retracing (now (words .entry)) search (now (path .entry)) r (now (path .exit)) ⌝ }
 {
     if !sound::is_sound(words) {
-        return unchecked::not_retraced(Refusal::Unsound);
+        return unchecked::shown::not_retraced(Refusal::Unsound);
     }
     unchecked::retrace(words, search, path)
 }

@@ -1,5 +1,6 @@
 -- What the answers of the calls say in document 01's numbers and values.
 -- Assumes nothing.
+use mathlib.Core.Bool.{Bool, true, false}
 use Prim.Native.Nat.{ℕ}
 use Rattle.model.specs.declared.Refusal.{Refusal}
 use Rattle.model.specs.declared.Refusal.the-variants.{Malformed, OutOfOrder, NoSuchVertex, OverLimit, ShortCache, TreesFull, Unsound, InvalidSearch, NotSolved, ShortPath}
@@ -31,6 +32,11 @@ number ShortPath = 10
 pub data Reply (A : Type 0) : Type 0 where
   answered : A → Reply A
   refused : ℕ → ℕ → Reply A
+
+-- it is an answer, and no refusal
+abbrev pub isAnswered : {A : Type 0} → Reply A → Bool
+isAnswered (answered a) = true
+isAnswered (refused n line) = false
 
 -- "A step answers waiting, solved (total, moves) or none": none is called noPath here
 pub data Status : Type 0 where

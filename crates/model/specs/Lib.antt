@@ -11,6 +11,7 @@ pub mod Valid
 pub mod Strange
 pub mod Calls
 pub mod Solve
+pub mod Plan
 pub mod Demands
 pub mod SimpleGraph
 pub mod Reference

@@ -234,3 +234,12 @@ pub struct StepsTaken {
     pub tickets: usize,
     pub search: Search,
 }
+
+// What a whole search came to: its answer, whether its path was written, how many steps waited, the tickets of all, and the record.
+pub struct Planned {
+    pub answer: StepAnswer,
+    pub has_path: bool,
+    pub waits: usize,
+    pub tickets: usize,
+    pub search: Search,
+}

@@ -1,4 +1,4 @@
--- A call of `solve` in lists of calls: the search's own steps in its chain, and calls of `step` anywhere.
+-- A call of `solve` in lists of calls: the search's own steps in its chain, and calls of `step` anywhere. A call of `plan`: the three calls.
 -- Assumes nothing.
 use mathlib.Core.Path.{_≡_, refl, sym, ap, _∙_, subst}
 use mathlib.Core.Bool.{Bool}
@@ -11,13 +11,16 @@ use lib.ListN.{length, replicate, length-append, length-replicate}
 use Rattle.model.specs.declared.Search.{Search}
 use Rattle.model.specs.Answers.{answered, waiting, stepReply}
 use Rattle.model.specs.Solve.{isWaiting}
+use Rattle.model.specs.declared.Planned.{Planned}
 use Rattle.model.specs.declared.StepsTaken.{StepsTaken}
 use Rattle.model.proofs.Solve.{is-waiting, last-cases}
 use Rattle.model.specs.Demands.{Act, ownStep, Event, stepped}
 use Rattle.unchecked.specs.Solve.{Waited, at-first, once-more, all-wait, one-ends}
 use Rattle.dijkstra.specs.Calls.{Stepping}
-use Rattle.dijkstra.specs.Demands.{Made, made-step, made-reading, made-both, Chain, own-step}
+use Rattle.dijkstra.specs.Demands.{Made, made-initialize, made-step, made-retrace, made-reading, made-both, Chain, own-step}
 use Rattle.planner.specs.Solve.{StepsCalled, waitsCall, solvingCall, InLists, lastIf, InChains}
+use Rattle.planner.specs.Plan.{CallsMade, not-opened, to-the-end, planningCall}
+use Rattle.planner.specs.Plan as Plan
 use Rattle.planner.proofs.Waits.{rested}
 
 -- ---- in the search's chain
@@ -85,3 +88,11 @@ steps-made (one-ends {x = x} r a below v p e told) = made-both (waits-made v) (m
 
 pub in-lists : InLists
 in-lists ws s n r left p = steps-made (p .called)
+
+calls-made : {ws ss gs p : List ℕ} {r : Planned} {left q : List ℕ} (k : CallsMade ws ss gs p r left q) → Made ws (planningCall k) left
+calls-made {ws} {ss} {gs} (not-opened o f line i e) = made-initialize ss gs o i
+calls-made {ws} {ss} {gs} {p} (to-the-end {q = q} o e t i a s k) =
+    made-both (made-initialize ss gs o i) (made-both (steps-made (s .called)) (made-retrace (e .search) p t q k))
+
+pub plan-in-lists : Plan.InLists
+plan-in-lists ws ss gs p r left q k = calls-made (k .called)

@@ -1,6 +1,6 @@
 -- Laws that belong to no one function.
 pub mod Nodes
-pub mod Finished
+pub mod ShownNode
 pub mod Advanced
 pub mod Records
 pub mod Goals
@@ -11,3 +11,5 @@ pub mod Retraced
 pub mod Waits
 pub mod Solved
 pub mod Underway
+pub mod JustOpened
+pub mod Running

@@ -9,11 +9,11 @@ use lib.ListN.{length, getD}
 use Rattle.model.specs.declared.BestSolution.{BestSolution}
 use Rattle.model.specs.declared.BestSolution.the-variants.{NoBest, Best}
 use Rattle.model.specs.declared.Refusal.the-variants.{InvalidSearch, NotSolved}
-use Rattle.model.specs.declared.RetraceAnswer.{RetraceAnswer}
 use Rattle.model.specs.declared.RetraceAnswer.the-variants.{Refused}
 use Rattle.model.specs.declared.Search.{Search}
 use Rattle.model.specs.declared.Solution.{Solution}
 use Rattle.model.specs.declared.Solution.the-variants.{Unsolved, At}
+use Rattle.model.specs.Answers.{refused}
 use Rattle.model.specs.Graph.{Direction}
 use Rattle.model.specs.Tree.{Tree, Node}
 use Rattle.model.specs.Sound.{tree}
@@ -25,7 +25,10 @@ use Rattle.model.proofs.Faults.{shownWith, retraceAs, retrace-as, retrace-shown
 use Rattle.model.proofs.Turns.{unsolved-at}
 use Rattle.model.proofs.Valid.{valid-at}
 use Rattle.layout.specs.Read.{directionOf, readCache}
-use Rattle.unchecked.specs.Retrace.{Retraces, retraceNodeIf, RetracesNode}
+use Rattle.unchecked.specs.declared.shown.Shown.{Shown}
+use Rattle.unchecked.specs.Shown.{shownIn}
+use Rattle.unchecked.specs.Retrace.{Retraces, retraceNodeIf, retraceNode, retraceShown}
+use Rattle.unchecked.proofs.ShownNode.{shown-cases}
 use Rattle.unchecked.proofs.Initialized.{direction-is}
 use Rattle.layout.specs.Layout.{directionIn}
 
@@ -47,19 +50,17 @@ module _ (ws : List ℕ) (s : Search) (p : List ℕ) where
     not-finished e = sym (given fine (ap (λ (x : Bool). x && isBest (s .«best_solution»)) e))
 
     module _ (done : s .exhausted ≡ true) where
-      pub no-best : s .«best_solution» ≡ NoBest → Retraces ws s p (Refused NotSolved 0) p
-      no-best e = sym (given fine (ap₂ (λ (x : Bool) (b : BestSolution). x && isBest b) done e))
+      no-best : s .«best_solution» ≡ NoBest → retrace c s p ≡ record { reply = refused 9 0; path = p }
+      no-best e = given fine (ap₂ (λ (x : Bool) (b : BestSolution). x && isBest b) done e)
 
       module _ {i n : ℕ} (best : s .«best_solution» ≡ Best i n) where
         -- a finished record that is not refused has the solution that it shows
-        pub is-held : entry s i .solution ≡ Unsolved → ⊥
+        is-held : entry s i .solution ≡ Unsolved → ⊥
         is-held e = let h = valid-at (c .domain) (c .trees) s fine .held done i n best in unsolved-at (h .0) (sym e ∙ h .1)
 
-        pub path-shown : (k : ℕ) → entry s i .solution ≡ At k → (r : RetraceAnswer) (q : List ℕ)
-            → RetracesNode ws (entry s i .tree) k p r q → Retraces ws s p r q
-        path-shown k e r q h =
-            h
-            ∙ same (ltb (length p) (1 + 2 * movesOf ns k))
+        path-shown : (k : ℕ) → entry s i .solution ≡ At k → retraceNode ws (entry s i .tree) k p ≡ retrace c s p
+        path-shown k e =
+            same (ltb (length p) (1 + 2 * movesOf ns k))
             ∙ ap (λ (d : Direction). shownWith (ltb (length p) (1 + 2 * movesOf ns k)) (movesOf ns k) (words d ns k) p) (sym (direction-is ws))
             ∙ retrace-shown (c .domain .direction) t k p (movesOf ns k) (words (c .domain .direction) ns k) refl refl
             ∙ sym (given fine (ap₂ (λ (x : Bool) (b : BestSolution). x && isBest b) done best)
@@ -75,3 +76,10 @@ module _ (ws : List ℕ) (s : Search) (p : List ℕ) where
             same : (b : Bool) → retraceNodeIf b ws (entry s i .tree) k p ≡ shownWith b (movesOf ns k) (words (directionOf (directionIn ws)) ns k) p
             same true = refl
             same false = refl
+
+      -- the path of the node shown
+      pub shown-retraced : retrace c s p ≡ retraceShown ws (shownIn s) p
+      shown-retraced = shown-cases s (λ (x : Shown). retrace c s p ≡ retraceShown ws x p)
+          (λ b. no-best b)
+          (λ i n b e. absurd (is-held b e))
+          (λ i n k b e. sym (path-shown b k e))

@@ -8,7 +8,7 @@ use native.Mathlib.Omega.{arith}
 use lib.Dec.{eqb}
 use lib.ListN.{length, length-append}
 use borrow.Author.Tests.{lt-ltb, le-ltb}
-use Rattle.model.specs.declared.Refusal.the-variants.{ShortPath}
+use Rattle.model.specs.declared.Refusal.the-variants.{NotSolved, ShortPath}
 use Rattle.model.specs.declared.RetraceAnswer.{RetraceAnswer}
 use Rattle.model.specs.declared.RetraceAnswer.the-variants.{Moves, Refused}
 use Rattle.model.specs.Tree.{Node, node}
@@ -21,7 +21,9 @@ use Rattle.memory.specs.Memory.{HasNode}
 use Rattle.sound.proofs.InUse.{words-formed, words-used}
 use Rattle.paths.specs.Path.{CanBacktrack, Backtracks}
 use Rattle.unchecked.proofs.Nodes.{nodes-are, is-hung}
-use Rattle.unchecked.specs.Retrace.{afterRetrace, retraceNodeIf, RetracesNode}
+use Rattle.unchecked.specs.declared.shown.Shown.{Shown}
+use Rattle.unchecked.specs.declared.shown.Shown.the-variants as shown
+use Rattle.unchecked.specs.Retrace.{afterRetrace, retraceNodeIf, RetracesNode, retraceShown, RetracesShown}
 use Rattle.layout.specs.Layout.{directionIn, edgesIn, verticesIn}
 use Rattle.layout.specs.Slots.{slotWords}
 
@@ -72,3 +74,12 @@ module _ {ws : List ℕ} {i n : ℕ} (u : HasNode ws i n) where
   path-short count p short e =
       let small : length p < 1 + 2 * movesOf ns n = omega (arith, short, count) in
       ap (λ (x : RetraceAnswer). afterRetrace x p) e ∙ sym (ap (λ (b : Bool). retraceNodeIf b ws i n p) (lt-ltb _ _ small))
+
+-- ---- the node shown, by the code's cases
+
+module _ (ws p : List ℕ) {x : Shown} where
+  pub nothing-retraced : x ≡ shown.Nothing → {r : RetraceAnswer} → r ≡ Refused NotSolved 0 → RetracesShown ws x p r p
+  nothing-retraced e z = ap (λ (y : RetraceAnswer). afterRetrace y p) z ∙ sym (ap (λ (y : Shown). retraceShown ws y p) e)
+
+  pub node-retraced : {i n : ℕ} → x ≡ shown.Node i n → (r : RetraceAnswer) (q : List ℕ) → RetracesNode ws i n p r q → RetracesShown ws x p r q
+  node-retraced e r q h = h ∙ sym (ap (λ (y : Shown). retraceShown ws y p) e)

@@ -1,6 +1,6 @@
 -- The loop of `steps_to_answer`: the steps so far all waited.
 -- Assumes nothing.
-use mathlib.Core.Path.{_≡_}
+use mathlib.Core.Path.{_≡_, sym, ap, _∙_, subst}
 use mathlib.Core.Bool.{true, false}
 use mathlib.Core.List.{List}
 use Prim.Native.Nat.{ℕ, _+_, _*_, _<_, _≤_}
@@ -12,12 +12,16 @@ use Rattle.model.specs.declared.StepAnswer.the-variants as stepping
 use Rattle.model.specs.declared.Search.{Search}
 use Rattle.model.specs.declared.Stepped.{Stepped}
 use Rattle.model.specs.Answers.{stepReply}
+use Rattle.model.specs.Calls.{step}
 use Rattle.model.specs.Solve.{isWaiting, lastReply}
 use Rattle.layout.specs.Read.{readCache}
 use Rattle.sound.specs.Facts.{SoundWords}
+use Rattle.entry_turns.specs.declared.Turned.{Turned}
+use Rattle.entry_turns.specs.Turn.{CanStep, Steps}
 use Rattle.unchecked.specs.Step.{Advances}
 use Rattle.unchecked.specs.Solve.{Waited, at-first, once-more, all-wait, one-ends, Solves}
 use Rattle.unchecked.proofs.Records.{step-few}
+use Rattle.unchecked.proofs.Advanced.{rests, walked, can-step}
 use Rattle.unchecked.proofs.Waits.{Stays, waited-stays}
 use Rattle.unchecked.proofs.Solved.{made-solves}
 
@@ -48,20 +52,32 @@ module _ {ws : List ℕ} {s : Search} {n : ℕ} {words : List ℕ} {next : Searc
       let all = made-solves ws s (g .ok) (all-wait (g .waited) (λ none. absurd (omega (arith, g .some)))) in
       rw e all
 
-  module _ {r : Stepped} {left : List ℕ} (a : Advances words next r left) where
-    pub going-few : r .tickets ≤ 640
-    going-few = omega (arith, a .tickets, step-few (readCache words) next)
+  -- the next step, by how the search stands
+  module _ (h : w < n) (a : StepAnswer) (stands : stepReply a ≡ step (readCache words) next .reply) where
+    pub going-answers : isWaiting (stepReply a) ≡ false → {b : StepAnswer} → stepReply b ≡ lastReply w (stepReply a)
+        → Solves ws s n (record { answer = b; waits = w; tickets = t; search = next }) words
+    going-answers e {b} told =
+        let none : t + 0 ≡ t = omega arith in
+        let r : Stepped = record { answer = a; tickets = 0; search = next } in
+        subst (λ (k : ℕ). Solves ws s n (record { answer = b; waits = w; tickets = k; search = next }) words) none
+        (made-solves ws s (g .ok) (one-ends r b (omega arith) (g .waited) (rests words next going-sound a stands e) e told))
 
-    module _ (h : w < n) where
-      pub going-answers : isWaiting (stepReply (r .answer)) ≡ false → {a : StepAnswer} → stepReply a ≡ lastReply w (stepReply (r .answer))
-          → Solves ws s n (record { answer = a; waits = w; tickets = t + r .tickets; search = r .search }) left
-      going-answers e {a = b} told = made-solves ws s (g .ok) (one-ends r b (omega arith) (g .waited) a e told)
+    module _ (e : isWaiting (stepReply a) ≡ true) where
+      pub going-can : CanStep words next
+      going-can = can-step words next going-sound (ap isWaiting (sym stands) ∙ e)
 
-      pub going-more : isWaiting (stepReply (r .answer)) ≡ true → Underway ws s n left (r .search) (w + 1) (t + r .tickets)
-      going-more e = record {
-        ok = g .ok;
-        waited = once-more r (g .waited) a e;
-        some = g .some;
-        within = omega arith;
-        few = omega (arith, g .few, going-few);
-      }
+      module _ {r : Turned} {left : List ℕ} (p : Steps words next r left) where
+        advances : Advances words next (record { answer = a; tickets = r .tickets; search = r .search }) left
+        advances = walked words next a stands e r left p
+
+        pub going-few : r .tickets ≤ 640
+        going-few = omega (arith, advances .tickets, step-few (readCache words) next)
+
+        pub going-more : Underway ws s n left (r .search) (w + 1) (t + r .tickets)
+        going-more = record {
+          ok = g .ok;
+          waited = once-more (record { answer = a; tickets = r .tickets; search = r .search }) (g .waited) advances e;
+          some = g .some;
+          within = omega arith;
+          few = omega (arith, g .few, going-few);
+        }

@@ -1,37 +1,38 @@
 // The calls on words that are known to be sound: the Rust's, which checks nothing. Their callers check the words, once for one call
 // or once for many, or know them sound by a theorem.
+pub mod shown;
+
+use entry_turns::step_trees;
 use layout::lists::are_vertices;
-use layout::slots::slot_words;
 use layout::wide;
 use memory::is_valid;
-use model::BestSolution;
 use model::InitializeAnswer;
 use model::Refusal;
 use model::RetraceAnswer;
 use model::Search;
 use model::SearchOpened;
 use model::SearchStatus;
-use model::Solution;
 use model::StepAnswer;
 use model::Stepped;
 use model::StepsTaken;
 use model::limits::MAX_ENTRIES;
+use shown::Shown;
+use shown::not_retraced;
+use shown::retrace_shown;
+use shown::shown_of;
+use shown::status_of;
 ghost use mathlib.Core.Path.{_≡_};
 ghost use Prim.Native.Nat.{_<_};
-ghost use Rattle.model.specs.Answers.{status, stepReply};
-ghost use Rattle.model.specs.Tree.{node as Tree·node};
-ghost use Rattle.model.specs.Sound.{tree};
-ghost use Rattle.model.specs.Path.{movesOf};
-ghost use Rattle.model.specs.Calls.{finalStatus, step as Model·step};
+ghost use Rattle.model.specs.Answers.{stepReply};
+ghost use Rattle.model.specs.Calls.{step as Model·step};
 ghost use Rattle.model.specs.Solve.{isWaiting, lastReply};
 ghost use Rattle.layout.specs.Read.{readCache};
 ghost use Rattle.sound.specs.Facts.{SoundWords};
-ghost use Rattle.memory.specs.Memory.{HasNode};
-ghost use Rattle.entry_turns.specs.Turn.{CanStep};
 ghost use Rattle.unchecked.specs.Initialize.{Initializes, notOpened, CanOpenSearch, OpensSearch, CanTakeGoals, withGoals};
 ghost use Rattle.unchecked.specs.Step.{Advances, notStepped};
 ghost use Rattle.unchecked.specs.Solve.{Solves};
-ghost use Rattle.unchecked.specs.Retrace.{Retraces, RetracesNode};
+ghost use Rattle.unchecked.specs.Run.{Runs, JustOpened, RunsToEnd};
+ghost use Rattle.unchecked.specs.Retrace.{Retraces};
 
 // Opens a search from the starts to the goals. On a backward cache its trees root at the goals and the starts are looked for.
 pub fn initialize(words: &mut [u32], starts: &[u32], goals: &[u32]) -> SearchOpened
@@ -112,7 +113,7 @@ pub fn step(words: &mut [u32], search: Search) -> Stepped
             search,
         };
     }
-    let turned = entry_turns::step_trees(words, search);
+    let turned = step_trees(words, search);
     let next = turned.search;
     Stepped {
         answer,
@@ -148,19 +149,18 @@ fn steps_to_answer(words: &mut [u32], search: Search, steps: usize) -> StepsTake
     let mut waits: usize = 0;
     let mut tickets: usize = 0;
     while waits < steps {
-        let stepped = step(words, next);
-        tickets += stepped.tickets;
-        let answer = stepped.answer;
-        let search = stepped.search;
+        let answer = standing(words, next);
         if !is_waiting(answer) {
             return StepsTaken {
                 answer: last_answer(waits, answer),
                 waits,
                 tickets,
-                search,
+                search: next,
             };
         }
-        next = search;
+        let turned = step_trees(words, next);
+        tickets += turned.tickets;
+        next = turned.search;
         waits += 1;
     }
     StepsTaken {
@@ -187,6 +187,60 @@ fn last_answer(waits: usize, answer: StepAnswer) -> StepAnswer
     }
 }
 
+// What a whole search came to: its answer, how many steps waited, the tickets of all, the node that it shows, and its record.
+pub struct SearchRun {
+    pub answer: StepAnswer,
+    pub waits: usize,
+    pub tickets: usize,
+    pub shown: Shown,
+    pub search: Search,
+}
+
+// A whole search: opened, and stepped to its end. It answers, or its opening is refused. Its record is never tested: it is valid at each
+// step, by theorem.
+pub fn run_search(words: &mut [u32], starts: &[u32], goals: &[u32]) -> SearchRun
+    requires { ⌜ SoundWords (now words) ⌝ }
+    ensures { λ r. ⌜ Runs (now (words .entry)) (now (starts .entry)) (now (goals .entry)) r (now (words .exit)) ⌝ }
+{
+    let opened = initialize(words, starts, goals);
+    let search = opened.search;
+    let answer = opened.answer;
+    match answer {
+        InitializeAnswer::Refused { refusal, line } => SearchRun {
+            answer: StepAnswer::Refused { refusal, line },
+            waits: 0,
+            tickets: 0,
+            shown: Shown::Nothing,
+            search,
+        },
+        InitializeAnswer::Initialized => run_opened(words, search),
+    }
+}
+
+// The steps of a search that was just opened.
+fn run_opened(words: &mut [u32], search: Search) -> SearchRun
+    requires { ⌜ JustOpened (now words) search ⌝ }
+    ensures { λ r. ⌜ RunsToEnd (now (words .entry)) search r (now (words .exit)) ⌝ }
+{
+    let mut next = search;
+    let mut waits: usize = 0;
+    let mut tickets: usize = 0;
+    while !next.exhausted {
+        let stepped = step_trees(words, next);
+        tickets += stepped.tickets;
+        next = stepped.search;
+        waits += 1;
+    }
+    let shown = shown_of(next);
+    SearchRun {
+        answer: StepAnswer::Status(status_of(words, shown)),
+        waits,
+        tickets,
+        shown,
+        search: next,
+    }
+}
+
 // What a step of the search answers. A refused or a finished one does no more.
 pub fn standing(words: &[u32], search: Search) -> StepAnswer
     requires { ⌜ SoundWords (now words) ⌝ }
@@ -199,8 +253,8 @@ pub fn standing(words: &[u32], search: Search) -> StepAnswer
         };
     }
     if search.exhausted {
-        let status = final_status(words, search);
-        return StepAnswer::Status(status);
+        let shown = shown_of(search);
+        return StepAnswer::Status(status_of(words, shown));
     }
     StepAnswer::Status(SearchStatus::Incomplete)
 }
@@ -231,26 +285,6 @@ pub fn not_stepped(search: Search, refusal: Refusal) -> Stepped
     }
 }
 
-// The answer of a finished search.
-fn final_status(words: &[u32], search: Search) -> SearchStatus
-    requires { ⌜ CanStep (now words) search ⌝ }
-    ensures { λ r. ⌜ status r ≡ finalStatus (readCache (now (words .entry)) .trees) search ⌝ }
-{
-    let best = search.best_solution;
-    let BestSolution::Best { entry, node: _ } = best else {
-        return SearchStatus::Impossible;
-    };
-    let memory = search.trees[entry];
-    let solution = memory.solution;
-    let Solution::At(node) = solution else {
-        return SearchStatus::Impossible;
-    };
-    SearchStatus::Solved {
-        total_cost: node_cost(words, memory.tree, node),
-        moves: moves(words, memory.tree, node),
-    }
-}
-
 // Writes the path of a search that finished as solved: first vertex, then edge and vertex for each move, in the graph's own direction.
 pub fn retrace(words: &[u32], search: Search, path: &mut [u32]) -> RetraceAnswer
     requires { ⌜ SoundWords (now words) ⌝ }
@@ -262,50 +296,6 @@ pub fn retrace(words: &[u32], search: Search, path: &mut [u32]) -> RetraceAnswer
     if !search.exhausted {
         return not_retraced(Refusal::NotSolved);
     }
-    let best = search.best_solution;
-    let BestSolution::Best { entry, node: _ } = best else {
-        return not_retraced(Refusal::NotSolved);
-    };
-    let memory = search.trees[entry];
-    let solution = memory.solution;
-    let Solution::At(node) = solution else {
-        return not_retraced(Refusal::NotSolved);
-    };
-    retrace_node(words, memory.tree, node, path)
-}
-
-pub fn not_retraced(refusal: Refusal) -> RetraceAnswer
-    ensures { λ r. ⌜ r ≡ RetraceAnswer.Refused refusal 0 ⌝ }
-{
-    RetraceAnswer::Refused { refusal, line: 0 }
-}
-
-// The path to a node of the tree in a slot, if the slice has room for it.
-fn retrace_node(words: &[u32], slot: usize, node: u32, path: &mut [u32]) -> RetraceAnswer
-    requires { ⌜ HasNode (now words) slot node ⌝ }
-    ensures { λ r. ⌜ RetracesNode (now (words .entry)) slot node (now (path .entry)) r (now (path .exit)) ⌝ }
-{
-    let count = moves(words, slot, node);
-    if path.len() < 1 + 2 * count {
-        return not_retraced(Refusal::ShortPath);
-    }
-    let tree = slot_words(words, slot);
-    paths::backtrack(words, tree, wide(node), path);
-    RetraceAnswer::Moves(count)
-}
-
-// A node's cost, in the tree of a slot.
-fn node_cost(words: &[u32], slot: usize, node: u32) -> u32
-    requires { ⌜ HasNode (now words) slot node ⌝ }
-    ensures { λ r. ⌜ r ≡ Tree·node (tree (readCache (now (words .entry)) .trees) slot .nodes) node .cost ⌝ }
-{
-    layout::node_cost(slot_words(words, slot), wide(node))
-}
-
-// How many moves lead to a node, in the tree of a slot.
-fn moves(words: &[u32], slot: usize, node: u32) -> usize
-    requires { ⌜ HasNode (now words) slot node ⌝ }
-    ensures { λ r. ⌜ r ≡ movesOf (tree (readCache (now (words .entry)) .trees) slot .nodes) node ⌝ }
-{
-    paths::moves(slot_words(words, slot), wide(node))
+    let shown = shown_of(search);
+    retrace_shown(words, shown, path)
 }

@@ -4,8 +4,8 @@ use Prim.Native.Nat.{_≤_}
 use borrow.Author.Needs.{needs}
 use Rattle.sound.proofs.InUse.{has-slot}
 use Rattle.unchecked.proofs.RetracedNode.{few-moves, path-short, can-backtrack, path-written}
-use Rattle.unchecked.proofs.retrace_node.Statement.{statement}
-use Rattle.unchecked.proofs.retrace_node.Tie as tie
+use Rattle.unchecked.proofs.shown.retrace_node.Statement.{statement}
+use Rattle.unchecked.proofs.shown.retrace_node.Tie as tie
 
 abbrev at-start : tie.After-moves → tie.Start
 at-start c = c .before .before .before

@@ -3,8 +3,8 @@
 use borrow.Author.Needs.{needs}
 use Rattle.sound.proofs.InUse.{has-slot}
 use Rattle.unchecked.proofs.Nodes.{node-fits, cost-is}
-use Rattle.unchecked.proofs.node_cost.Statement.{statement}
-use Rattle.unchecked.proofs.node_cost.Tie as tie
+use Rattle.unchecked.proofs.shown.node_cost.Statement.{statement}
+use Rattle.unchecked.proofs.shown.node_cost.Tie as tie
 
 abbrev at-start : tie.After-slot-words → tie.Start
 at-start c = c .before .before

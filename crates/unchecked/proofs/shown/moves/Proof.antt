@@ -3,8 +3,8 @@
 use borrow.Author.Needs.{needs}
 use Rattle.sound.proofs.InUse.{has-slot}
 use Rattle.unchecked.proofs.Nodes.{is-hung, moves-are}
-use Rattle.unchecked.proofs.moves.Statement.{statement}
-use Rattle.unchecked.proofs.moves.Tie as tie
+use Rattle.unchecked.proofs.shown.moves.Statement.{statement}
+use Rattle.unchecked.proofs.shown.moves.Tie as tie
 
 abbrev at-start : tie.After-slot-words → tie.Start
 at-start c = c .before .before

@@ -1,0 +1,79 @@
+-- The node that a search shows: it is one of a tree in use, and what is answered of it is the model's.
+-- Assumes nothing.
+use mathlib.Core.Path.{_≡_, refl, sym, ap, ap₂, _∙_, subst}
+use mathlib.Core.List.{List}
+use Prim.Native.Nat.{ℕ}
+use Rattle.model.specs.declared.BestSolution.{BestSolution}
+use Rattle.model.specs.declared.BestSolution.the-variants.{NoBest, Best}
+use Rattle.model.specs.declared.Search.{Search}
+use Rattle.model.specs.declared.Solution.{Solution}
+use Rattle.model.specs.declared.Solution.the-variants.{Unsolved, At}
+use Rattle.model.specs.Answers.{solved, noPath}
+use Rattle.model.specs.Tree.{Tree, node}
+use Rattle.model.specs.Sound.{tree}
+use Rattle.model.specs.Path.{movesOf}
+use Rattle.model.specs.Search.{entry}
+use Rattle.model.specs.Calls.{shownBy, shownTreeBy, statusAt, finalStatus}
+use Rattle.memory.specs.Memory.{HasNode}
+use Rattle.memory.proofs.Fits.{best-few, held-node}
+use Rattle.entry_turns.specs.Turn.{CanStep}
+use Rattle.unchecked.specs.declared.shown.Shown.{Shown}
+use Rattle.unchecked.specs.declared.shown.Shown.the-variants as shown
+use Rattle.unchecked.specs.Shown.{shownAt, shownFor, shownIn, CanShow, Shows, statusOf}
+
+-- ---- by what the record holds
+
+module _ (s : Search) where
+  pub none-best : s .«best_solution» ≡ NoBest → shown.Nothing ≡ shownIn s
+  none-best e = sym (ap (shownFor s) e)
+
+  module _ {i n : ℕ} (best : s .«best_solution» ≡ Best i n) where
+    pub held-at : {o : Solution} → entry s i .solution ≡ o → shownAt (entry s i) o ≡ shownIn s
+    held-at e = ap (shownAt (entry s i)) (sym e) ∙ sym (ap (shownFor s) best)
+
+  -- by cases: nothing is best; the best's entry holds nothing; it holds a node
+  pub shown-cases : (P : Shown → Type 0) → (s .«best_solution» ≡ NoBest → P shown.Nothing)
+      → ((i n : ℕ) → s .«best_solution» ≡ Best i n → entry s i .solution ≡ Unsolved → P shown.Nothing)
+      → ((i n h : ℕ) → s .«best_solution» ≡ Best i n → entry s i .solution ≡ At h → P (shown.Node (entry s i .tree) h)) → P (shownIn s)
+  shown-cases P no-best no-node held = go (s .«best_solution») refl
+    where
+      at : (i n : ℕ) → s .«best_solution» ≡ Best i n → (o : Solution) → entry s i .solution ≡ o → P (shownAt (entry s i) o)
+      at i n b Unsolved e = no-node i n b e
+      at i n b (At h) e = held i n h b e
+
+      go : (b : BestSolution) → s .«best_solution» ≡ b → P (shownFor s b)
+      go NoBest b = no-best b
+      go (Best i n) b = at i n b (entry s i .solution) refl
+
+-- ---- what is answered
+
+pub status-is : (ts : List Tree) (s : Search) → statusOf ts (shownIn s) ≡ finalStatus ts s
+unfolding finalStatus
+status-is ts s = shown-cases s (λ (x : Shown). statusOf ts x ≡ finalStatus ts s)
+    (λ b. sym (by b))
+    (λ i n b e. sym (by b ∙ ap (statusAt (tree ts (entry s i .tree))) e))
+    (λ i n h b e. sym (by b ∙ ap (statusAt (tree ts (entry s i .tree))) e))
+  where
+    by : {b : BestSolution} → s .«best_solution» ≡ b → statusAt (shownTreeBy ts s (s .«best_solution»)) (shownBy s (s .«best_solution»)) ≡ statusAt (shownTreeBy ts s b) (shownBy s b)
+    by e = ap (λ (b : BestSolution). statusAt (shownTreeBy ts s b) (shownBy s b)) e
+
+-- ---- by the code's cases
+
+pub nothing-status : (ts : List Tree) {x : Shown} → x ≡ shown.Nothing → noPath ≡ statusOf ts x
+nothing-status ts e = sym (ap (statusOf ts) e)
+
+module _ {x : Shown} {i n : ℕ} (e : x ≡ shown.Node i n) where
+  pub node-status : (ts : List Tree) {k m : ℕ} → k ≡ node (tree ts i .nodes) n .cost → m ≡ movesOf (tree ts i .nodes) n → solved k m ≡ statusOf ts x
+  node-status ts cost moves = ap₂ solved cost moves ∙ sym (ap (statusOf ts) e)
+
+  pub node-shown : {ws : List ℕ} → Shows ws x → HasNode ws i n
+  node-shown {ws} h = subst (Shows ws) e h
+
+-- ---- of a record that may be stepped
+
+module _ {ws : List ℕ} {s : Search} (v : CanStep ws s) where
+  pub can-show : CanShow s
+  can-show i n e = best-few (v .sound) (v .fits) e
+
+  pub shows : Shows ws (shownIn s)
+  shows = shown-cases s (Shows ws) (λ b. tt) (λ i n b e. tt) (λ i n h b e. held-node (v .sound, v .fits .held i (v .fits .best i n b .0)) e)
