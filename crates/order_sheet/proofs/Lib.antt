@@ -1,7 +1,6 @@
 -- Laws that belong to no one function.
 pub mod Within
 pub mod Sizes
-pub mod Drives
 pub mod Texts
 pub mod Bounds
 pub mod Driven

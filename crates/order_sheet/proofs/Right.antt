@@ -17,6 +17,7 @@ use Rattle.model.proofs.Demand3 as model
 use Rattle.layout.specs.Read.{directionOf, readCache}
 use Rattle.cache.specs.Demand1.{Opens}
 use Rattle.cache.proofs.Demand1.{demand-1}
+use Rattle.sound.proofs.Facts.{sound-words-at}
 use Rattle.sound.proofs.Opened.{opened-sound}
 use Rattle.model.specs.Solve.{AfterSteps, stepsFrom, solve, maxSteps}
 use Rattle.model.proofs.Solve.{steps-none, steps-cases, solve-some}
@@ -112,6 +113,6 @@ opens-called ws text d t left h =
       accepted = o .accepted;
       calls = [];
       cache = o .cache;
-      sound = opened-sound ws text d t left o;
+      sound = sound-words-at left (opened-sound ws text d t left o);
     } in
     (o .graph, (o .read, called))

@@ -9,8 +9,8 @@ use native.Mathlib.Numerals.{add-one}
 use native.Mathlib.Omega.{arith}
 use borrow.Author.Tests.{le-ltb}
 use lib.Dec.{ltb}
-use lib.ListN.{length, take, drop, length-drop}
-use lib.Seq.{drop-drop}
+use lib.ListN.{length, take, drop, length-drop, length-append}
+use lib.Seq.{drop-drop, length-take-le, take-append-le, take-append-seam, take-append-add}
 use Rattle.model.specs.declared.Refusal.{Refusal}
 use Rattle.model.specs.declared.OpenAnswer.{OpenAnswer}
 use Rattle.model.specs.declared.OpenAnswer.the-variants as opening
@@ -38,6 +38,7 @@ use Rattle.order_sheet.specs.declared.Part.{Part}
 use Rattle.order_sheet.specs.Orders.{refusedOrder}
 use Rattle.order_sheet.specs.Whole.{lentWords, lentSlots, title, Caches, PrintedOrder, printedOrderBy, printedOrder, linesFrom, linesIn, linesText, ordersText, chartText, freshBoth, isOverlong, filesText, sheetText}
 use Rattle.order_sheet.specs.Sheet.{RanBy, RanLine, cachesIn, CanGoOn, PutsPart, RefusedPart, Begins, PutsNext, WrittenSoFar, Parts, no-more, one-more, WritesSheet}
+use Rattle.order_sheet.proofs.Within.{put-within}
 use Rattle.order_sheet.proofs.Called.{called-both, called-after}
 
 -- ---- the lines of a text, line by line
@@ -239,18 +240,64 @@ module _ (chart orders : List ℕ) where
 
 -- ---- the parts one after the other
 
-pub written-first : {chart orders out fs bs out′ : List ℕ} {p : Part} → Begins chart orders out p fs bs out′ → WrittenSoFar chart orders fs bs p
-written-first x = record { before = x .text; rest = x .rest; within = x .within; next = x .next }
+-- the first bytes of a part that was put
+put-taken : {out t left : List ℕ} {r : ℕ} → Puts out 0 t r left → take r left ≡ t
+put-taken {out} {t} {left} {r} h =
+    let same : r ≡ length t = omega (arith, h .end) in
+    ap (λ (n : ℕ). take n left) same ∙ ap (take (length t)) (h .bytes) ∙ take-append-seam t (drop (0 + length t) out)
 
-pub written-next : {chart orders out fs bs : List ℕ} {p : Part} → WrittenSoFar chart orders fs bs p
-    → {q : Part} {fs′ bs′ out′ : List ℕ} → PutsNext orders fs bs out p q fs′ bs′ out′ → WrittenSoFar chart orders fs′ bs′ q
-written-next {orders = orders} w {q} {fs′} {bs′} x = record {
-  before = w .before ++ x .part .text;
-  rest = w .rest ∙ ap (λ (l : List ℕ). w .before ++ l) (x .part .rest)
-      ∙ sym (append-assoc (w .before) (x .part .text) (linesText (q .order) (cachesIn fs′ bs′) (drop (q .at) orders)));
-  within = x .part .within;
-  next = x .part .next;
+pub written-first : {chart orders out fs bs out′ : List ℕ} {p : Part} → Begins chart orders out p fs bs out′ → WrittenSoFar chart orders fs bs out′ (p .bytes) p
+written-first {orders = orders} {fs = fs} {bs = bs} {p = p} x = record {
+  written = [];
+  rest = x .rest ∙ ap (λ (l : List ℕ). l ++ linesText (p .order) (cachesIn fs bs) (drop (p .at) orders)) (sym (put-taken (x .put)));
+  fits = put-within (x .put);
+  within = x .within;
+  next = x .next;
 }
+
+-- the bytes filled are written, or they stay; m are filled then
+pub written-more : {chart orders fs bs out : List ℕ} {m n : ℕ} {p : Part} → m ≡ 0 → WrittenSoFar chart orders fs bs out n p → WrittenSoFar chart orders fs bs out m p
+written-more {chart} {orders} {fs} {bs} {out} {n = n} {p = p} e w = subst (λ (k : ℕ). WrittenSoFar chart orders fs bs out k p) (sym e) (record {
+  written = w .written ++ take n out;
+  rest = w .rest ∙ sym (append-assoc (w .written) (take n out) (linesText (p .order) (cachesIn fs bs) (drop (p .at) orders)));
+  fits = omega arith;
+  within = w .within;
+  next = w .next;
+})
+
+pub written-same : {chart orders fs bs out : List ℕ} {m n : ℕ} {p : Part} → m ≡ n → WrittenSoFar chart orders fs bs out n p → WrittenSoFar chart orders fs bs out m p
+written-same {chart} {orders} {fs} {bs} {out} {p = p} e w = subst (λ (k : ℕ). WrittenSoFar chart orders fs bs out k p) (sym e) w
+
+-- a part is put behind the bytes filled
+pub written-next : {chart orders fs bs out : List ℕ} {n : ℕ} {p : Part} → WrittenSoFar chart orders fs bs out n p
+    → {lent left : List ℕ} {q : Part} {fs′ bs′ : List ℕ} → PutsNext orders fs bs lent p q fs′ bs′ left → (after : List ℕ)
+    → WrittenSoFar chart orders fs′ bs′ (take n out ++ (left ++ after)) (n + q .bytes) q
+written-next {orders = orders} {out = out} {n = n} w {left = left} {q = q} {fs′ = fs′} {bs′ = bs′} x after =
+    let lines : List ℕ = linesText (q .order) (cachesIn fs′ bs′) (drop (q .at) orders) in
+    let size : length (take n out) ≡ n = length-take-le n out (w .fits) in
+    let both : take (n + q .bytes) (take n out ++ (left ++ after)) ≡ take n out ++ x .part .text =
+    ap (λ (k : ℕ). take (k + q .bytes) (take n out ++ (left ++ after))) (sym size)
+    ∙ take-append-add (take n out) (left ++ after) (q .bytes)
+    ∙ ap (λ (l : List ℕ). take n out ++ l) (take-append-le (q .bytes) left after (put-within (x .part .put)) ∙ put-taken (x .part .put)) in
+    record {
+      written = w .written;
+      rest = w .rest
+          ∙ ap (λ (l : List ℕ). w .written ++ (take n out ++ l)) (x .part .rest)
+          ∙ ap (λ (l : List ℕ). w .written ++ l) (sym (append-assoc (take n out) (x .part .text) lines))
+          ∙ ap (λ (l : List ℕ). w .written ++ (l ++ lines)) (sym both);
+      fits = omega (arith, length-append (take n out) (left ++ after), length-append left after, size, put-within (x .part .put));
+      within = x .part .within;
+      next = x .part .next;
+    }
+
+-- where no order is left, what was written and the bytes filled are the sheet
+pub written-all : {chart orders fs bs out : List ℕ} {n : ℕ} {p : Part} (w : WrittenSoFar chart orders fs bs out n p) → length orders ≤ p .at
+    → sheetText chart orders ≡ w .written ++ take n out
+written-all {orders = orders} {fs} {bs} {out} {n} {p} w past =
+    let end : p .at ≡ length orders = omega (arith, w .within) in
+    let none : linesText (p .order) (cachesIn fs bs) (drop (p .at) orders) ≡ [] =
+    ap (λ (k : ℕ). linesText (p .order) (cachesIn fs bs) (drop k orders)) end ∙ lines-past (p .order) (cachesIn fs bs) orders in
+    w .rest ∙ ap (λ (l : List ℕ). w .written ++ (take n out ++ l)) none ∙ ap (λ (l : List ℕ). w .written ++ l) (append-nil (take n out))
 
 parts-are : {orders fs bs : List ℕ} {p : Part} {l : List ℕ} → Parts orders fs bs p l → l ≡ linesText (p .order) (cachesIn fs bs) (drop (p .at) orders)
 parts-are {orders} {fs} {bs} {p} (no-more e) =

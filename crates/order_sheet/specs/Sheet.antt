@@ -1,27 +1,32 @@
 -- What the functions that print a sheet promise each other: the bytes of each line, and the caches left.
 -- Assumes nothing.
 use mathlib.Core.Path.{_≡_}
-use mathlib.Core.Bool.{true}
+use mathlib.Core.Bool.{Bool, true, false}
 use mathlib.Core.List.{List, [], _++_}
-use Prim.Native.Nat.{ℕ, _<_, _≤_}
-use lib.ListN.{length, drop}
+use Prim.Native.Nat.{ℕ, _+_, _*_, _<_, _≤_}
+use lib.Dec.{ltb}
+use lib.ListN.{length, take, drop}
 use Rattle.model.specs.declared.OpenAnswer.the-variants.{Opened}
-use Rattle.model.specs.Answers.{answered, refused, stepReply}
+use Rattle.model.specs.Answers.{answered, refused}
+use Rattle.model.specs.Sound.{tree}
+use Rattle.model.specs.Path.{movesOf, words}
 use Rattle.model.specs.Graph.{Graph, Accepted, Direction, forward, backward}
 use Rattle.model.specs.Calls.{opened, initialize}
 use Rattle.model.specs.Demands.{Call, afterAll}
 use Rattle.text.specs.Read.{readGraph}
 use Rattle.layout.specs.Read.{directionOf, readCache}
-use Rattle.layout.specs.Sound.{soundWordsb}
+use Rattle.layout.specs.Layout.{directionIn}
+use Rattle.sound.specs.Facts.{SoundWords}
 use Rattle.cache.specs.Open.{Opening}
-use Rattle.model.specs.declared.StepsTaken.{StepsTaken}
-use Rattle.model.specs.Solve.{AfterSteps}
+use Rattle.unchecked.specs.declared.shown.Shown.{Shown}
+use Rattle.unchecked.specs.declared.shown.Shown.the-variants as shown
 use Rattle.order_lines.specs.declared.orders.Numbers.{Numbers}
 use Rattle.order_lines.specs.declared.orders.Form.{Form}
 use Rattle.order_lines.specs.declared.orders.Form.the-variants.{Forward, Backward, Illegal}
 use Rattle.order_lines.specs.declared.orders.Order.{Order}
 use Rattle.order_lines.specs.Orders.{orderOf}
-use Rattle.order_lines.specs.Answers.{refusedLine}
+use Rattle.order_lines.specs.declared.answers.Line.{Line}
+use Rattle.order_lines.specs.Answers.{answerLine, refusedLine}
 use Rattle.put_text.specs.Puts.{Puts}
 use Rattle.order_sheet.specs.Orders.{ordered, refusedOrder, RightLine}
 use Rattle.order_sheet.specs.Whole.{maxBytes, lentWords, lentSlots, listed, Caches, linesText, sheetText}
@@ -39,10 +44,16 @@ pub record InArrays (ss gs : Numbers) : Type 0 where
   pub starts : ss .count ≤ length (ss .numbers)
   pub goals : gs .count ≤ length (gs .numbers)
 
--- the counts of an order are numbers of at most 10 digits
-pub record CountsFit (d : StepsTaken) : Type 0 where
-  pub waits : d .waits < 10000000000
-  pub tickets : d .tickets < 10000000000
+-- the words lent for a path: 1,023 moves are the most there are among 1,024 vertices
+pub record PathRoom (path : List ℕ) : Type 0 where
+  pub words : length path ≡ 2047
+
+-- a line, whose counts are numbers of at most 10 digits, and the words and bytes lent for it
+pub record CanPutShown (l : Line) (p out : List ℕ) : Type 0 where
+  pub can : CanPut (l .order) out
+  pub path : PathRoom p
+  pub waits : l .waits < 10000000000
+  pub tickets : l .tickets < 10000000000
 
 -- the bytes read are within the space lent
 abbrev pub Within : Bytes → List ℕ → Type 0
@@ -51,15 +62,20 @@ Within Failed space = Unit {0}
 
 -- ---- the orders, in words
 
--- what some steps came to, with the cache that the words left hold
-abbrev pub afterSteps : StepsTaken → List ℕ → AfterSteps
-afterSteps r left = record { cache = readCache left; search = r .search; reply = stepReply (r .answer); waits = r .waits; tickets = r .tickets }
+-- the line l with the path of the node that is shown, where 2,047 words have room for it
+abbrev pub pathLine : Bool → List ℕ → Line → ℕ → ℕ → List ℕ
+pathLine true ws l slot n = refusedOrder (l .order) 10
+pathLine false ws l slot n = answerLine l (words (directionOf (directionIn ws)) (tree (readCache ws .trees) slot .nodes) n)
+
+abbrev pub shownLine : List ℕ → Line → Shown → List ℕ
+shownLine ws l shown.Nothing = answerLine l []
+shownLine ws l (shown.Node slot n) = pathLine (ltb 2047 (1 + 2 * movesOf (tree (readCache ws .trees) slot .nodes) n)) ws l slot n
 
 -- order i from ss to gs in the words ws: its text stands at the start of out, and r is its length
 pub record Ran (ws : List ℕ) (i : ℕ) (ss gs out : List ℕ) (r : ℕ) (left out′ : List ℕ) : Type 0 where
   pub text : Puts out 0 (ordered i (readCache ws) ss gs .text) r out′
   pub cache : readCache left ≡ ordered i (readCache ws) ss gs .cache
-  pub sound : soundWordsb left ≡ true
+  pub sound : SoundWords left
 
 -- an order goes to the words of its direction, fs forward or bs backward; the others stay
 pub record RanIn (ws ws′ : List ℕ) (i : ℕ) (o : Order) (out : List ℕ) (r : ℕ) (left left′ out′ : List ℕ) : Type 0 where
@@ -87,7 +103,7 @@ pub record Called (dir : Direction) (g : Graph) (t : ℕ) (ws : List ℕ) : Type
   pub accepted : Accepted g
   pub calls : List Call
   pub cache : readCache ws ≡ afterAll (opened dir g t) calls
-  pub sound : soundWordsb ws ≡ true
+  pub sound : SoundWords ws
 
 -- a refused order prints the number of its refusal, another one a right line; and the next order finds such words again
 pub record PrintsRight (dir : Direction) (g : Graph) (t i : ℕ) (ws ss gs left text : List ℕ) : Type 0 where
@@ -146,9 +162,10 @@ pub record RefusedPart (orders out : List ℕ) (n : ℕ) (p : Part) (out′ : Li
 abbrev pub Begins : List ℕ → List ℕ → List ℕ → Part → List ℕ → List ℕ → List ℕ → Type 0
 Begins chart orders out p fs bs out′ = PutsPart orders out (sheetText chart orders) p fs bs out′
 
-pub record CanPutNext (orders fs bs out : List ℕ) (p : Part) : Type 0 where
+pub record CanPutNext (orders fs bs ps out : List ℕ) (p : Part) : Type 0 where
   pub left : p .at < length orders
   pub can : CanGoOn orders fs bs p
+  pub path : PathRoom ps
   pub room : 24576 ≤ length out
 
 -- the part of the order at the place of p
@@ -156,10 +173,12 @@ pub record PutsNext (orders fs bs out : List ℕ) (p q : Part) (fs′ bs′ out�
   pub part : PutsPart orders out (linesText (p .order) (cachesIn fs bs) (drop (p .at) orders)) q fs′ bs′ out′
   pub further : p .at < q .at
 
--- so the parts one after the other are the sheet: some were written, and p is the last of them
-pub record WrittenSoFar (chart orders fs bs : List ℕ) (p : Part) : Type 0 where
-  pub before : List ℕ
-  pub rest : sheetText chart orders ≡ before ++ linesText (p .order) (cachesIn fs bs) (drop (p .at) orders)
+-- so the parts one after the other are the sheet: some bytes of it were written, the next ones are the first of out, as many as are filled,
+-- and what is left are the lines of the orders from the place of p on
+pub record WrittenSoFar (chart orders fs bs out : List ℕ) (filled : ℕ) (p : Part) : Type 0 where
+  pub written : List ℕ
+  pub rest : sheetText chart orders ≡ written ++ (take filled out ++ linesText (p .order) (cachesIn fs bs) (drop (p .at) orders))
+  pub fits : filled ≤ length out
   pub within : p .at ≤ length orders
   pub next : p .at < length orders → CanGoOn orders fs bs p
 

@@ -5,6 +5,7 @@ pub mod order;
 
 use model::OpenAnswer;
 use model::number;
+use order::MAX_PATH;
 use order::put_order;
 use order::put_refusal;
 use order_lines::answers::put_refused;
@@ -27,6 +28,9 @@ const SLOTS: usize = 16;
 // A line has at most 108 bytes, and 11 for each of the 2,047 words of a path.
 const LINE: usize = 24576;
 
+// Lines are written many at once: the bytes that are put before they are written.
+const SPACE: usize = 65536;
+
 // A part of a sheet: its bytes, and where the next order stands and which number it has.
 pub struct Part {
     pub bytes: usize,
@@ -38,15 +42,26 @@ pub struct Part {
 pub fn run(chart: &[u8], orders: &[u8]) {
     let mut forward = [0u32; WORDS];
     let mut backward = [0u32; WORDS];
-    let mut out = [0u8; LINE];
+    let mut path = [0u32; MAX_PATH];
+    let mut out = [0u8; SPACE];
     let mut part = begin(&mut forward, &mut backward, chart, orders, &mut out);
-    let first = part.bytes;
-    io::write_all(1, &out[0..first]);
+    let mut filled = part.bytes;
     while part.at < orders.len() {
-        part = put_next(&mut forward, &mut backward, orders, part, &mut out);
-        let n = part.bytes;
-        io::write_all(1, &out[0..n]);
+        if SPACE - LINE < filled {
+            io::write_all(1, &out[0..filled]);
+            filled = 0;
+        }
+        part = put_next(
+            &mut forward,
+            &mut backward,
+            orders,
+            part,
+            &mut path,
+            &mut out[filled..],
+        );
+        filled += part.bytes;
     }
+    io::write_all(1, &out[0..filled]);
 }
 
 // The first part: the title, where both caches were opened. If a file is too long, or the chart is refused, a line that says so is
@@ -104,9 +119,10 @@ fn put_next(
     backward: &mut [u32],
     orders: &[u8],
     part: Part,
+    path: &mut [u32],
     out: &mut [u8],
 ) -> Part
-    requires { ⌜ CanPutNext (now orders) (now forward) (now backward) (now out) part ⌝ }
+    requires { ⌜ CanPutNext (now orders) (now forward) (now backward) (now path) (now out) part ⌝ }
     ensures { λ r. ⌜ PutsNext (now (orders .entry)) (now (forward .entry)) (now (backward .entry)) (now (out .entry)) part r (now (forward .exit)) (now (backward .exit)) (now (out .exit)) ⌝ }
 {
     let at = part.at;
@@ -121,7 +137,7 @@ fn put_next(
         };
     }
     Part {
-        bytes: put_order(forward, backward, order, &orders[at..end], out),
+        bytes: put_order(forward, backward, order, &orders[at..end], path, out),
         at: end + 1,
         order: next,
     }

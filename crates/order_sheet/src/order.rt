@@ -1,9 +1,7 @@
 // One order: its search is opened on the cache of its direction and stepped until it answers, and its line is put.
-use model::InitializeAnswer;
 use model::RetraceAnswer;
 use model::SearchStatus;
 use model::StepAnswer;
-use model::StepsTaken;
 use model::number;
 use order_lines::answers::Answer;
 use order_lines::answers::Line;
@@ -11,28 +9,31 @@ use order_lines::answers::put_line;
 use order_lines::orders::Form;
 use order_lines::orders::Numbers;
 use order_lines::orders::read_order;
-use planner::MAX_STEPS;
+use unchecked::run_search;
+use unchecked::shown::Shown;
+use unchecked::shown::retrace_node;
 ghost use mathlib.Core.Path.{_≡_};
-ghost use mathlib.Core.Bool.{true};
 ghost use Rattle.model.specs.Answers.{stepReply};
-ghost use Rattle.layout.specs.Sound.{soundWordsb};
+ghost use Rattle.sound.specs.Facts.{SoundWords};
+ghost use Rattle.unchecked.specs.Shown.{Shows};
 ghost use Rattle.put_text.specs.Puts.{Puts};
-ghost use Rattle.order_sheet.specs.Orders.{answerOf, refusedOrder, drivenText};
+ghost use Rattle.order_sheet.specs.Orders.{answerOf, refusedOrder};
 ghost use Rattle.order_sheet.specs.Whole.{listed};
-ghost use Rattle.order_sheet.specs.Sheet.{CanPut, InArrays, CountsFit, afterSteps, Ran, RanLine, CalledBoth};
+ghost use Rattle.order_sheet.specs.Sheet.{CanPut, CanPutShown, InArrays, PathRoom, shownLine, Ran, RanLine, CalledBoth};
 
 // The words of a path of 1,023 moves, the most there are among 1,024 vertices.
-const MAX_PATH: usize = 2047;
+pub const MAX_PATH: usize = 2047;
 
-// Puts the line of an order, which is given without its LF, and answers how many bytes it has.
+// Puts the line of an order, which is given without its LF, and answers how many bytes it has. A path is written into the words lent for it.
 pub fn put_order(
     forward: &mut [u32],
     backward: &mut [u32],
     order: usize,
     line: &[u8],
+    path: &mut [u32],
     out: &mut [u8],
 ) -> usize
-    requires { ⌜ CanPut order (now out) × CalledBoth (now forward) (now backward) ⌝ }
+    requires { ⌜ CanPut order (now out) × (PathRoom (now path) × CalledBoth (now forward) (now backward)) ⌝ }
     ensures { λ r. ⌜ RanLine (now (forward .entry)) (now (backward .entry)) order (now (line .entry)) (now (out .entry)) r (now (forward .exit)) (now (backward .exit)) (now (out .exit)) ⌝ }
 {
     let read = read_order(line);
@@ -40,8 +41,8 @@ pub fn put_order(
     let goals = read.goals;
     let form = read.form;
     match form {
-        Form::Forward => put_search(forward, order, starts, goals, out),
-        Form::Backward => put_search(backward, order, starts, goals, out),
+        Form::Forward => put_search(forward, order, starts, goals, path, out),
+        Form::Backward => put_search(backward, order, starts, goals, path, out),
         Form::Illegal => put_refusal(out, order, 1),
     }
 }
@@ -67,28 +68,29 @@ fn put_search(
     order: usize,
     starts: Numbers,
     goals: Numbers,
+    path: &mut [u32],
     out: &mut [u8],
 ) -> usize
-    requires { ⌜ CanPut order (now out) × (InArrays starts goals × (soundWordsb (now words) ≡ true)) ⌝ }
+    requires { ⌜ CanPut order (now out) × (PathRoom (now path) × (InArrays starts goals × SoundWords (now words))) ⌝ }
     ensures { λ r. ⌜ Ran (now (words .entry)) order (listed starts) (listed goals) (now (out .entry)) r (now (words .exit)) (now (out .exit)) ⌝ }
 {
     let from = starts.numbers;
     let from_count = starts.count;
     let to = goals.numbers;
     let to_count = goals.count;
-    let opened = dijkstra::initialize(words, &from[0..from_count], &to[0..to_count]);
-    let answer = opened.answer;
-    match answer {
-        InitializeAnswer::Refused { refusal, line: _ } => put_refusal(out, order, number(refusal)),
-        InitializeAnswer::Initialized => {
-            let search = opened.search;
-            let taken = planner::solve(words, search, MAX_STEPS);
-            put_driven(words, order, taken, out)
-        }
-    }
+    let run = run_search(words, &from[0..from_count], &to[0..to_count]);
+    let answer = run.answer;
+    let line = Line {
+        order,
+        answer: answer_of(answer),
+        waits: run.waits,
+        tickets: run.tickets,
+    };
+    let shown = run.shown;
+    put_shown(words, line, shown, path, out)
 }
 
-// The line's answer, by that of the steps.
+// The line's answer, by that of the search.
 fn answer_of(answer: StepAnswer) -> Answer
     ensures { λ r. ⌜ r ≡ answerOf (stepReply answer) ⌝ }
 {
@@ -106,25 +108,17 @@ fn answer_of(answer: StepAnswer) -> Answer
 }
 
 // A solved order's line shows its path.
-fn put_driven(words: &[u32], order: usize, taken: StepsTaken, out: &mut [u8]) -> usize
-    requires { ⌜ CanPut order (now out) × (CountsFit taken × (soundWordsb (now words) ≡ true)) ⌝ }
-    ensures { λ r. ⌜ Puts (now (out .entry)) 0 (drivenText order (afterSteps taken (now (words .entry)))) r (now (out .exit)) ⌝ }
+fn put_shown(words: &[u32], line: Line, shown: Shown, path: &mut [u32], out: &mut [u8]) -> usize
+    requires { ⌜ CanPutShown line (now path) (now out) × Shows (now words) shown ⌝ }
+    ensures { λ r. ⌜ Puts (now (out .entry)) 0 (shownLine (now (words .entry)) line shown) r (now (out .exit)) ⌝ }
 {
-    let last = taken.answer;
-    let answer = answer_of(last);
-    let search = taken.search;
-    let line = Line {
-        order,
-        answer,
-        waits: taken.waits,
-        tickets: taken.tickets,
-    };
-    let mut path = [0u32; MAX_PATH];
-    let Answer::Solved(_) = answer else {
+    let Shown::Node { slot, node } = shown else {
         return put_line(out, line, &path[0..0]);
     };
-    match dijkstra::retrace(words, search, &mut path) {
-        RetraceAnswer::Refused { refusal, line: _ } => put_refusal(out, order, number(refusal)),
+    match retrace_node(words, slot, node, path) {
+        RetraceAnswer::Refused { refusal, line: _ } => {
+            put_refusal(out, line.order, number(refusal))
+        }
         RetraceAnswer::Moves(moves) => {
             let n = 1 + 2 * moves;
             put_line(out, line, &path[0..n])

@@ -6,55 +6,64 @@ use borrow.Author.Needs.{needs}
 use native.Mathlib.Omega.{arith}
 use lib.ListN.{length}
 use Rattle.text.proofs.LineCuts.{place-within}
+use Rattle.order_sheet.specs.Sheet.{CanPut}
 use Rattle.order_sheet.proofs.Whole.{put-last, put-line}
 use Rattle.order_sheet.proofs.put_next.Statement.{statement}
 use Rattle.order_sheet.proofs.put_next.Tie as tie
 
-abbrev start : tie.After-find → tie.Start
-start f = f .before .before .before .before .before .before
+-- ---- places: the start, from where the LF was sought; that, from where the line was put
 
-found-within : (f : tie.After-find) → f .find .result ≤ length (start f .args .orders .now) - start f .args .part .at
-found-within f = place-within (start f .args .orders .now) (start f .args .part .at) (f .find .ensures)
+abbrev at-start : tie.After-find → tie.Start
+at-start f = f .before .before .before .before .before .before .before
+
+abbrev at-line : tie.After-put-order → tie.Else1
+at-line c = c .before .before .before .before .before .before
+
+abbrev at-put : tie.After-slice-known9 → tie.After-put-order
+at-put c = c .before .before .before .before .before .before .before .before
+
+found-within : (f : tie.After-find) → f .find .result ≤ length (at-start f .args .orders .now) - at-start f .args .part .at
+found-within f = place-within (at-start f .args .orders .now) (at-start f .args .part .at) (f .find .ensures)
+
+can-put : (f : tie.After-find) → CanPut (at-start f .args .part .order) (at-start f .args .out .now)
+can-put f = let p = at-start f .pre in record { order = omega (arith, p .can .few, p .can .number, p .left); room = p .room }
 
 add-next : tie.Need-add-next
-add-next c = let p = c .before .before .before .before .pre in record { fits = omega (arith, p .can .few, p .can .number, p .left) }
+add-next c = let p = c .before .before .before .before .before .pre in record { fits = omega (arith, p .can .few, p .can .number, p .left) }
 
 sub-find : tie.Need-sub-find
-sub-find c = omega (arith, c .before .before .before .before .pre .left)
+sub-find c = omega (arith, c .before .before .before .before .before .pre .left)
 
 part-find-start : tie.Need-part-find-start
-part-find-start c = omega (arith, c .before .before .before .before .pre .left)
+part-find-start c = omega (arith, c .before .before .before .before .before .pre .left)
 
 add-end : tie.Need-add-end
-add-end c = omega (arith, found-within c, start c .pre .can .few)
-
-put-refusal-requires : tie.Need-put-refusal-requires
-put-refusal-requires c κs =
-    let p = c .before .before .before .before .before .before .before .before .pre in
-    record { order = omega (arith, p .can .few, p .can .number, p .left); room = p .room }
+add-end c = omega (arith, found-within c, at-start c .pre .can .few)
 
 returns : tie.Need-returns
 returns c =
-    let f = c .before .before .before .before .before in
-    let p = start f .pre in
-    put-last _ (p .left) (p .can) (f .find .ensures) (c .before .before .before .before .if1 .taken) (c .before .before .put-refusal .ensures)
+    let i = c .before .before .before .before in
+    let f = i .before in
+    let p = at-start f .pre in
+    put-last _ (p .left) (p .can) (f .find .ensures) (i .if1 .taken) (c .before .before .put-refusal .ensures)
 
 part-put-order-end : tie.Need-part-put-order-end
-part-put-order-end c = omega (arith, found-within (c .before .before .before), start (c .before .before .before) .pre .left)
+part-put-order-end c = let f = c .before .before .before in omega (arith, found-within f, at-start f .pre .left)
 
 put-order-requires : tie.Need-put-order-requires
 put-order-requires c κs =
-    let p = c .before .before .before .before .before .before .before .before .before .before .before .pre in
-    (record { order = omega (arith, p .can .few, p .can .number, p .left); room = p .room }, p .can .called)
+    let f = c .before .before .before .before .before .before in
+    (can-put f, (at-start f .pre .path, at-start f .pre .can .called))
 
-add-t28 : tie.Need-add-t28
-add-t28 c = let f = c .before .before .before .before .before .before .before .before .before .before .before .before in omega (arith, found-within f, start f .pre .can .few)
+add-t31 : tie.Need-add-t31
+add-t31 c = let f = at-line (at-put c) .before in omega (arith, found-within f, at-start f .pre .can .few)
 
 returns-2 : tie.Need-returns-2
 returns-2 c =
-    let f = c .before .before .before .before .before .before .before .before .before .before .before .before in
-    let p = start f .pre in
-    put-line _ (p .left) (p .can) (f .find .ensures) (c .before .before .before .before .before .before .before .before .before .before .before .if1 .left) (c .before .before .before .before .before .before .put-order .ensures)
+    let k = at-put c in
+    let i = at-line k in
+    let p = at-start (i .before) .pre in
+    put-line _ (p .left) (p .can) (i .before .find .ensures) (i .if1 .left) (k .put-order .ensures)
 
 pub put-next-spec : {M : Type 1} → statement M
 put-next-spec =
@@ -66,14 +75,15 @@ put-next-spec =
     (λ c. search needs)
     (λ c κs. search needs)
     add-end
-    put-refusal-requires
+    (λ c κs. can-put (c .before .before))
     (λ c. search needs)
     returns
     (λ c. search needs)
     (λ c. search needs)
     part-put-order-end
     put-order-requires
-    add-t28
+    add-t31
+    (λ c. search needs)
     (λ c. search needs)
     (λ c. search needs)
     (λ c. search needs)

@@ -1,46 +1,119 @@
--- `run` meets its contract: it ends, and the parts that it writes are those of the sheet, one after the other.
+-- `run` meets its contract: it ends, and the bytes that it writes are those of the sheet, many lines at once.
 -- Assumes nothing.
-use mathlib.Core.Path.{_≡_}
-use Prim.Native.Nat.{_-_}
+use mathlib.Core.Path.{_≡_, _∙_}
+use mathlib.Core.Logic.{⊎-elim}
+use mathlib.Core.List.{List, _++_}
+use Prim.Native.Nat.{ℕ, _-_, _≤_}
 use borrow.Author.Needs.{needs}
+use borrow.Rule.Slice.PartMut.{putMid, same-len-mid}
 use native.Mathlib.Omega.{arith}
-use lib.ListN.{length}
-use Rattle.order_sheet.specs.Whole.{lentWords}
-use Rattle.order_sheet.specs.Sheet.{WrittenSoFar}
+use lib.ListN.{length, take, length-take, length-drop}
+use Rattle.order_sheet.specs.declared.Part.{Part}
+use Rattle.order_sheet.specs.Whole.{lentWords, sheetText}
+use Rattle.order_sheet.specs.Sheet.{PathRoom, WrittenSoFar}
 use Rattle.order_sheet.proofs.Within.{put-within}
-use Rattle.order_sheet.proofs.Whole.{written-first, written-next}
+use Rattle.order_sheet.proofs.Whole.{written-first, written-more, written-same, written-next, written-all}
 use Rattle.order_sheet.proofs.run.Statement.{statement}
 use Rattle.order_sheet.proofs.run.Tie as tie
 
+-- what is lent keeps its length
+record Printing (chart orders fs bs ps out : List ℕ) (p : Part) (filled : ℕ) : Type 0 where
+  forward : length fs ≡ lentWords
+  backward : length bs ≡ lentWords
+  path : PathRoom ps
+  space : length out ≡ 65536
+  so-far : WrittenSoFar chart orders fs bs out filled p
+
 abbrev Inv-loop : tie.InvT-loop
-Inv-loop chart orders forward₀ backward₀ out₀ part₀ first forward backward out part =
-    (length forward ≡ lentWords) × ((length backward ≡ lentWords) × ((length out ≡ 24576) × WrittenSoFar chart orders forward backward part))
+Inv-loop chart orders forward₀ backward₀ path₀ out₀ part₀ filled₀ forward backward path out part filled = Printing chart orders forward backward path out part filled
 
 abbrev μ-loop : tie.MeasureT-loop
-μ-loop chart orders forward₀ backward₀ out₀ part₀ first forward backward out part = length orders - part .at
+μ-loop chart orders forward₀ backward₀ path₀ out₀ part₀ filled₀ forward backward path out part filled = length orders - part .at
 
-part-write-all-end : tie.Need-part-write-all-end Inv-loop μ-loop
-part-write-all-end c = put-within (c .before .before .before .before .begin .ensures .put)
+-- ---- places: the start, from the loop; that, from where there is room for a line; that, from where the line was put
+
+abbrev at-start : tie.At-loop Inv-loop μ-loop → tie.Start Inv-loop μ-loop
+at-start c = c .before .before .before .before .before .before .before .before .before .before
+
+abbrev at-loop : tie.Joined2 Inv-loop μ-loop → tie.At-loop Inv-loop μ-loop
+at-loop c = c .before .before .before
+
+abbrev at-room : tie.After-put-next Inv-loop μ-loop → tie.Joined2 Inv-loop μ-loop
+at-room c = c .before .before .before .before .before .before
+
+abbrev at-put : tie.After-struct-known2 Inv-loop μ-loop → tie.After-put-next Inv-loop μ-loop
+at-put c = c .before .before .before .before .before
+
+-- ---- where there is room: 40,960 bytes and those of a line are all
+
+room : (c : tie.Joined2 Inv-loop μ-loop) → c .if2 .filled ≤ 40960
+room c = ⊎-elim (λ w. omega (arith, w .4)) (λ w. omega (arith, w .0 .left, w .1)) (c .if2 .came)
+
+so-far : (c : tie.Joined2 Inv-loop μ-loop)
+    → let l = at-loop c in
+    let a = at-start l .args in
+    WrittenSoFar (a .chart .now) (a .orders .now) (l .loop .forward) (l .loop .backward) (l .loop .out) (c .if2 .filled) (l .loop .part)
+so-far c =
+    let w = at-loop c .loop .inv .so-far in
+    ⊎-elim (λ a. written-more (a .4) w) (λ a. written-same (a .1) w) (c .if2 .came)
+
+-- ---- the needs
 
 loop-holds : tie.Need-loop-holds Inv-loop μ-loop
-loop-holds c = (search needs, (search needs, (search needs, written-first (c .before .before .before .before .before .before .begin .ensures))))
+loop-holds c = record {
+  forward = search needs;
+  backward = search needs;
+  path = record { words = search needs };
+  space = search needs;
+  so-far = written-first (c .before .before .before .begin .ensures);
+}
+
+part-out : (c : tie.After-row-known Inv-loop μ-loop) → c .before .before .before .before .if2 .filled ≤ 40960
+part-out c = room (c .before .before .before .before)
 
 put-next-requires : tie.Need-put-next-requires Inv-loop μ-loop
 put-next-requires c κs =
-    let t = c .before .before .before in
-    let i = t .before .before .loop .inv in
-    record { left = t .if1 .taken; can = i .1 .1 .1 .next (t .if1 .taken); room = omega (arith, i .1 .1 .0) }
+    let r = c .before .before .before .before .before in
+    let i = at-loop r .loop .inv in
+    let more = r .before .if1 .taken in
+    record { left = more; can = so-far r .next more; path = i .path; room = simp (length-take, length-drop) (omega (arith, room r, i .space)) }
 
-part-write-all-end-2 : tie.Need-part-write-all-end-2 Inv-loop μ-loop
-part-write-all-end-2 c = put-within (c .before .before .before .before .put-next .ensures .part .put)
+add-filled : tie.Need-add-filled Inv-loop μ-loop
+add-filled c =
+    let p = at-put c in
+    record { fits = omega (arith, room (at-room p), put-within (p .put-next .ensures .part .put), c .before .out5 .given) }
 
 loop-less : tie.Need-loop-less Inv-loop μ-loop
-loop-less c = let p = c .before .before .before .before .before .before .put-next .ensures in omega (arith, p .further, p .part .within)
+loop-less c = let p = at-put c .put-next .ensures in omega (arith, p .further, p .part .within)
+
+-- the bytes are as many as before
+out-length : (c : tie.After-struct-known2 Inv-loop μ-loop)
+    → let p = at-put c in
+    let r = at-room p in
+    length (putMid (r .if2 .filled) (65536 - r .if2 .filled) (at-loop r .loop .out) (p .put-next .last .1 .1 .1 .1 .1 .0)) ≡ 65536
+out-length c =
+    let p = at-put c in
+    let r = at-room p in
+    same-len-mid (r .if2 .filled) (65536 - r .if2 .filled) (at-loop r .loop .out) (p .put-next .last .1 .1 .1 .1 .1 .0) (c .before .out5 .given)
+    ∙ at-loop r .loop .inv .space
 
 loop-again : tie.Need-loop-again Inv-loop μ-loop
-loop-again c =
-    let p = c .before .before .before .before .before .before in
-    (search needs, (search needs, (search needs, written-next (c .before .before .before .before .before .before .before .before .before .before .before .before .loop .inv .1 .1 .1) (p .put-next .ensures))))
+loop-again c = record {
+  forward = search needs;
+  backward = search needs;
+  path = record { words = search needs };
+  space = out-length c;
+  so-far = written-next (so-far (at-room (at-put c))) (at-put c .put-next .ensures) _;
+}
+
+-- with the last bytes that are written the sheet is whole
+all-written : (c : tie.After-write-all2 Inv-loop μ-loop)
+    → let l = c .before .before .before .before .before in
+    let a = at-start l .args in
+    sheetText (a .chart .now) (a .orders .now) ≡ l .loop .inv .so-far .written ++ take (l .loop .filled) (l .loop .out)
+all-written c =
+    let e = c .before .before .before in
+    written-all (e .before .before .loop .inv .so-far) (omega (arith, e .if1 .left))
 
 pub run-spec : {M : Type 1} → statement M
 run-spec =
@@ -52,19 +125,24 @@ run-spec =
     (λ c. search needs)
     (λ c. search needs)
     (λ c κs. search needs)
-    (λ c. search needs)
-    (λ c. search needs)
-    part-write-all-end
-    (λ c κs. search needs)
     loop-holds
     (λ c. search needs)
     (λ c. search needs)
     (λ c. search needs)
-    put-next-requires
-    (λ c. search needs)
-    (λ c. search needs)
-    part-write-all-end-2
+    (λ c. c .before .before .before .before .loop .inv .so-far .fits)
     (λ c κs. search needs)
+    (λ c. search needs)
+    (λ c. search needs)
+    (λ c. search needs)
+    (λ c. omega (arith, part-out c))
+    (λ c. omega (arith, part-out c))
+    (λ c. omega (arith, part-out c))
+    put-next-requires
+    add-filled
     loop-less
     loop-again
+    (λ c. search needs)
+    (λ c. search needs)
+    (λ c. c .before .before .before .loop .inv .so-far .fits)
+    (λ c κs. search needs)
     (λ c. search needs))

@@ -3,35 +3,59 @@
 use borrow.Author.Needs.{needs}
 use mathlib.Core.Path.{refl}
 use Rattle.order_lines.specs.declared.orders.Form.the-variants.{Forward, Backward, Illegal}
+use Rattle.order_sheet.specs.Sheet.{InArrays}
 use Rattle.order_sheet.proofs.Within.{order-read}
 use Rattle.order_sheet.proofs.Texts.{ran-line}
 use Rattle.order_sheet.proofs.order.put_order.Statement.{statement}
 use Rattle.order_sheet.proofs.order.put_order.Tie as tie
 
+-- ---- places: the start, from where the order was read; that, from where its form is known
+
+abbrev at-start : tie.After-read-order → tie.Start
+at-start c = c .before .before .before .before .before .before
+
+abbrev at-forward : tie.After-enum-told → tie.After-read-order
+at-forward c = c .before .before .before .before
+
+abbrev at-backward : tie.After-enum-told2 → tie.After-read-order
+at-backward c = c .before .before .before .before
+
+abbrev at-illegal : tie.After-enum-told3 → tie.After-read-order
+at-illegal c = c .before .before .before .before
+
+read : (c : tie.After-read-order) → InArrays (c .read-order .result .starts) (c .read-order .result .goals)
+read c = order-read _ _ (c .read-order .ensures)
+
 put-search-requires : tie.Need-put-search-requires
 put-search-requires c κs =
-    let a = c .before .before .before .before .before .before .before .before .before .before .before in
-    (a .pre .0, (order-read _ _ (c .before .before .before .before .before .before .read-order .ensures), a .pre .1 .forward .sound))
+    let r = at-forward (c .before .before .before) in
+    let p = at-start r .pre in
+    (p .0, (p .1 .0, (read r, p .1 .1 .forward .sound)))
 
 put-search-requires-2 : tie.Need-put-search-requires-2
 put-search-requires-2 c κs =
-    let a = c .before .before .before .before .before .before .before .before .before .before .before in
-    (a .pre .0, (order-read _ _ (c .before .before .before .before .before .before .read-order .ensures), a .pre .1 .backward .sound))
+    let r = at-backward (c .before .before .before) in
+    let p = at-start r .pre in
+    (p .0, (p .1 .0, (read r, p .1 .1 .backward .sound)))
 
 returns : tie.Need-returns
 returns c =
-    ran-line _ _ _ _ _ _ _ _ _ _ Forward (c .before .before .before .before .before .before .before .before .before .before .before .read-order .ensures) (c .before .before .before .before .before .before .before .enum-told .given .1)
-    (record { ran = c .before .before .before .before .put-search .ensures; stays = refl })
+    let k = c .before .before .before .before .before .before in
+    let e = k .before .before .before .before in
+    ran-line _ _ _ _ _ _ _ _ _ _ Forward (at-forward e .read-order .ensures) (e .enum-told .given .1) (record { ran = k .put-search .ensures; stays = refl })
 
 returns-2 : tie.Need-returns-2
 returns-2 c =
-    ran-line _ _ _ _ _ _ _ _ _ _ Backward (c .before .before .before .before .before .before .before .before .before .before .before .read-order .ensures) (c .before .before .before .before .before .before .before .enum-told2 .given .1)
-    (record { ran = c .before .before .before .before .put-search2 .ensures; stays = refl })
+    let k = c .before .before .before .before .before .before in
+    let e = k .before .before .before .before in
+    ran-line _ _ _ _ _ _ _ _ _ _ Backward (at-backward e .read-order .ensures) (e .enum-told2 .given .1) (record { ran = k .put-search2 .ensures; stays = refl })
 
 returns-3 : tie.Need-returns-3
 returns-3 c =
-    ran-line _ _ _ _ _ _ _ _ _ _ Illegal (c .before .before .before .before .before .before .before .before .read-order .ensures) (c .before .before .before .before .enum-told3 .given .1)
-    (record { text = c .before .before .put-refusal .ensures; forward = refl; backward = refl })
+    let k = c .before .before in
+    let e = k .before .before in
+    ran-line _ _ _ _ _ _ _ _ _ _ Illegal (at-illegal e .read-order .ensures) (e .enum-told3 .given .1)
+    (record { text = k .put-refusal .ensures; forward = refl; backward = refl })
 
 pub put-order-spec : {M : Type 1} → statement M
 put-order-spec =
@@ -46,7 +70,9 @@ put-order-spec =
     (λ c κs. search needs)
     (λ c. search needs)
     (λ c. search needs)
+    (λ c. search needs)
     returns
+    (λ c. search needs)
     (λ c. search needs)
     (λ c. search needs)
     returns-2

@@ -1,45 +1,43 @@
--- `put_search` meets its contract. The lists are within their arrays, and the counts of so many steps are small.
+-- `put_search` meets its contract. The lists are within their arrays, and the counts of a run are small.
 -- Assumes nothing.
 use borrow.Author.Needs.{needs}
-use mathlib.Core.Path.{_≡_, _∙_}
-use mathlib.Core.Bool.{true}
-use native.Mathlib.Omega.{arith}
-use Rattle.layout.specs.Sound.{soundWordsb}
-use Rattle.order_sheet.proofs.Drives.{taken-counted}
-use Rattle.order_sheet.proofs.Texts.{lists-lent, ran-refused, ran-driven}
+use Rattle.unchecked.specs.Run.{Runs}
+use Rattle.order_sheet.specs.Whole.{listed}
+use Rattle.order_sheet.proofs.Texts.{lists-lent, ran-search, counts-fit, run-shows}
 use Rattle.order_sheet.proofs.order.put_search.Statement.{statement}
 use Rattle.order_sheet.proofs.order.put_search.Tie as tie
 
-part-initialize-end : tie.Need-part-initialize-end
-part-initialize-end c = c .before .before .before .before .before .before .pre .1 .0 .starts
+-- the start, from where the search was run
+abbrev at-start : tie.After-run-search → tie.Start
+at-start c = c .before .before .before .before .before .before .before .before .before .before .before
 
-part-initialize-end-2 : tie.Need-part-initialize-end-2
-part-initialize-end-2 c = c .before .before .before .before .before .before .before .before .pre .1 .0 .goals
+runs : (c : tie.After-run-search)
+    → let a = at-start c .args in
+    Runs (a .words .now) (listed (a .starts)) (listed (a .goals)) (c .run-search .result) (c .run-search .last .0)
+runs c = lists-lent (at-start c .args .starts) (at-start c .args .goals) (c .run-search .ensures)
 
-sound : (c : tie.After-initialize) → soundWordsb (c .initialize .last .0) ≡ true
-sound c = c .initialize .ensures .sound ∙ c .before .before .before .before .before .before .before .before .before .before .pre .1 .1
+part-run-search-end : tie.Need-part-run-search-end
+part-run-search-end c = c .before .before .before .before .before .before .before .pre .1 .1 .0 .starts
 
-put-driven-requires : tie.Need-put-driven-requires
-put-driven-requires c κs =
-    let r = c .before .before .before .before in
-    let o = r .before .before .before .before .before .before .before in
-    let a = o .before .before .before .before .before .before .before .before .before .before in
-    (a .pre .0, (taken-counted (r .solve .ensures) (sound o) (omega arith) (omega arith), r .solve .ensures .sound ∙ sound o))
+part-run-search-end-2 : tie.Need-part-run-search-end-2
+part-run-search-end-2 c = c .before .before .before .before .before .before .before .before .before .pre .1 .1 .0 .goals
+
+run-search-requires : tie.Need-run-search-requires
+run-search-requires c κs = c .before .before .before .before .before .before .before .before .before .before .pre .1 .1 .1
+
+put-shown-requires : tie.Need-put-shown-requires
+put-shown-requires c κs =
+    let r = c .before .before .before .before .before .before in
+    let p = at-start r .pre in
+    let h = runs r in
+    let few = counts-fit h in
+    (record { can = p .0; path = p .1 .0; waits = few .0; tickets = few .1 }, run-shows h)
 
 returns : tie.Need-returns
 returns c =
-    let o = c .before .before .before .before .before .before .before .before .before .before in
-    let a = o .before .before .before .before .before .before .before .before .before .before in
-    ran-refused (a .pre .1 .1) (lists-lent (a .args .starts) (a .args .goals) (o .initialize .ensures))
-    (c .before .before .before .before .before .before .answer .given .1) (c .before .before .before .number .ensures) (c .before .before .put-refusal .ensures)
-
-returns-2 : tie.Need-returns-2
-returns-2 c =
-    let o = c .before .before .before .before .before .before .before .before .before .before .before .before .before .before in
-    let a = o .before .before .before .before .before .before .before .before .before .before in
-    ran-driven (a .pre .1 .1) (lists-lent (a .args .starts) (a .args .goals) (o .initialize .ensures))
-    (c .before .before .before .before .before .before .before .before .before .before .enum-told .given .1)
-    (c .before .before .before .before .before .before .before .solve .ensures) (c .before .before .put-driven .ensures)
+    let k = c .before .before .before .before in
+    let a = k .before .before .before .before in
+    ran-search (runs (a .before .before .before)) _ (a .answer-of .ensures) (k .put-shown .ensures)
 
 pub put-search-spec : {M : Type 1} → statement M
 put-search-spec =
@@ -47,20 +45,14 @@ put-search-spec =
     (tie.spec
     (λ c. search needs)
     (λ c. search needs)
-    part-initialize-end
+    part-run-search-end
     (λ c. search needs)
     (λ c. search needs)
-    part-initialize-end-2
+    part-run-search-end-2
+    run-search-requires
     (λ c κs. search needs)
-    (λ c. search needs)
-    (λ c κs. search needs)
-    (λ c κs. search needs)
-    (λ c. search needs)
-    (λ c κs. search needs)
-    put-driven-requires
+    put-shown-requires
     (λ c. search needs)
     (λ c. search needs)
-    returns
     (λ c. search needs)
-    (λ c. search needs)
-    returns-2)
+    returns)
