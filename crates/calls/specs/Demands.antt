@@ -2,17 +2,18 @@
 -- is among the model's calls: one of the three, one that only reads, or one made of others. A new call is one constructor more of `Called`.
 -- Assumes nothing.
 use mathlib.Core.Path.{_≡_}
-use mathlib.Core.Bool.{Bool}
+use mathlib.Core.Bool.{Bool, true}
 use mathlib.Core.List.{List, [], _∷_, _++_}
 use Prim.Native.Nat.{ℕ}
 use Rattle.model.specs.declared.InitializeAnswer.the-variants.{Initialized}
 use Rattle.model.specs.declared.OpenAnswer.the-variants as opening
+use Rattle.model.specs.declared.Planned.{Planned}
 use Rattle.model.specs.declared.Refusal.{Refusal}
 use Rattle.model.specs.declared.RetraceAnswer.{RetraceAnswer}
 use Rattle.model.specs.declared.Search.{Search}
 use Rattle.model.specs.declared.SearchOpened.{SearchOpened}
 use Rattle.model.specs.declared.Stepped.{Stepped}
-use Rattle.model.specs.Answers.{stepReply}
+use Rattle.model.specs.Answers.{isAnswered, stepReply}
 use Rattle.model.specs.Demands.{Call, initializing, stepping, retracing, reading, Act, ownStep, ownRetrace, other, Event, stepped, retraced}
 use Rattle.layout.specs.Sound.{soundWordsb}
 use Rattle.cache.specs.Open.{Opening}
@@ -23,6 +24,8 @@ use Rattle.dijkstra.specs.Demands as dijkstra
 use Rattle.model.specs.declared.StepsTaken.{StepsTaken}
 use Rattle.planner.specs.Solve.{Solving, solvingCall, actsOf, eventsOf}
 use Rattle.planner.specs.Solve as planner
+use Rattle.planner.specs.Plan.{Planning, planningCall, stepsIn}
+use Rattle.planner.specs.Plan as plan
 use Rattle.in_place.specs.declared.StepReport.{StepReport}
 use Rattle.in_place.specs.Lent.{steppedAs}
 use Rattle.in_place.specs.Lent as in-place
@@ -30,7 +33,7 @@ use Rattle.in_place.specs.Lent as in-place
 -- ---- Demand 1, of every call that can be refused: "hold, after any refused call, what they held before it"
 
 abbrev pub Demand1 : Type 0
-Demand1 = cache.Demand1OfOpen × dijkstra.Demand1 × planner.Demand1 × in-place.Demand1
+Demand1 = cache.Demand1OfOpen × dijkstra.Demand1 × planner.Demand1 × plan.Demand1 × in-place.Demand1
 
 -- ---- lists of calls on the same words
 
@@ -52,6 +55,8 @@ pub data Called : List ℕ → Call → List ℕ → Part → Type 0 where
       → Called ws (solvingCall (p .called)) left (own s (actsOf r) (eventsOf r) (r .search))
   called-retrace : {ws : List ℕ} (s : Search) (p : List ℕ) (r : RetraceAnswer) (q : List ℕ) → Retracing ws s p r q
       → Called ws (retracing s p) ws (own s (ownRetrace p ∷ []) (retraced p (afterRetrace r q) ∷ []) s)
+  called-plan : {ws left : List ℕ} (ss gs p : List ℕ) (r : Planned) (q : List ℕ) (k : Planning ws ss gs p r left q)
+      → Called ws (planningCall (k .called)) left no-part
   called-is-sound : {ws : List ℕ} (r : Bool) → r ≡ soundWordsb ws → Called ws reading ws no-part
   called-open : {ws left : List ℕ} (text : List ℕ) (d t : ℕ) (f : Refusal) (line : ℕ) → Opening ws text d t (opening.Refused f line) left
       → Called ws reading left no-part
@@ -70,10 +75,14 @@ pub data Chain : List ℕ → Search → List Act → List Event → Type 0 wher
   between : {ws left : List ℕ} {s : Search} {acts : List Act} {es : List Event} {o : Part} (x : Call) → Called ws x left o
       → Chain left s acts es → Chain ws s (other x ∷ acts) es
 
--- a search from ss to gs opened in the words ws, by which call, and the calls after it, of which its own answered es
+-- a search from ss to gs opened in the words ws, by which call, and the calls after it, of which its own answered es. One that `plan` opened,
+-- which was not refused, has its steps and its retrace among them; t is that retrace's answer, as the slice then holds its path or stays
 pub data Searched (ws ss gs : List ℕ) : List Act → List Event → Type 0 where
   by-initialize : {left : List ℕ} {acts : List Act} {es : List Event} (r : SearchOpened) → Initializing ws ss gs r left → r .answer ≡ Initialized
       → Chain left (r .search) acts es → Searched ws ss gs acts es
+  by-plan : {left q : List ℕ} {acts : List Act} {es : List Event} (p : List ℕ) (r : Planned) (t : RetraceAnswer) → Planning ws ss gs p r left q
+      → isAnswered (stepReply (r .answer)) ≡ true → Retracing left (r .search) p t q → Chain left (r .search) acts es
+      → Searched ws ss gs (actsOf (stepsIn r) ++ (ownRetrace p ∷ acts)) (eventsOf (stepsIn r) ++ (retraced p (afterRetrace t q) ∷ es))
 
 -- a whole list of calls: `open` accepted a graph's text in direction d, with t slots, in some words; calls before; and a search from ss to gs
 pub record History (text : List ℕ) (d t : ℕ) (before : List Call) (ss gs : List ℕ) (acts : List Act) (es : List Event) : Type 0 where

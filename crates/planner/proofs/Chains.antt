@@ -1,7 +1,7 @@
 -- A call of `solve` in lists of calls: the search's own steps in its chain, and calls of `step` anywhere. A call of `plan`: the three calls.
 -- Assumes nothing.
 use mathlib.Core.Path.{_≡_, refl, sym, ap, _∙_, subst}
-use mathlib.Core.Bool.{Bool}
+use mathlib.Core.Bool.{Bool, true, true≢false}
 use mathlib.Core.Logic.{inl, inr}
 use mathlib.Core.List.{List, [], _∷_, _++_, append-assoc, append-nil}
 use Prim.Native.Nat.{ℕ, zero, suc}
@@ -9,14 +9,15 @@ use native.Mathlib.Numerals.{add-one}
 use native.Mathlib.Omega.{arith}
 use lib.ListN.{length, replicate, length-append, length-replicate}
 use Rattle.model.specs.declared.Search.{Search}
-use Rattle.model.specs.Answers.{answered, waiting, stepReply}
+use Rattle.model.specs.Answers.{answered, isAnswered, waiting, stepReply, retraceReply}
 use Rattle.model.specs.Solve.{isWaiting}
 use Rattle.model.specs.declared.Planned.{Planned}
+use Rattle.model.specs.declared.RetraceAnswer.{RetraceAnswer}
 use Rattle.model.specs.declared.StepsTaken.{StepsTaken}
 use Rattle.model.proofs.Solve.{is-waiting, last-cases}
 use Rattle.model.specs.Demands.{Act, ownStep, Event, stepped}
 use Rattle.unchecked.specs.Solve.{Waited, at-first, once-more, all-wait, one-ends}
-use Rattle.dijkstra.specs.Calls.{Stepping}
+use Rattle.dijkstra.specs.Calls.{Stepping, Retracing}
 use Rattle.dijkstra.specs.Demands.{Made, made-initialize, made-step, made-retrace, made-reading, made-both, Chain, own-step}
 use Rattle.planner.specs.Solve.{StepsCalled, waitsCall, solvingCall, InLists, lastIf, InChains}
 use Rattle.planner.specs.Plan.{CallsMade, not-opened, to-the-end, planningCall}
@@ -96,3 +97,13 @@ calls-made {ws} {ss} {gs} {p} (to-the-end {q = q} o e t i a s k) =
 
 pub plan-in-lists : Plan.InLists
 plan-in-lists ws ss gs p r left q k = calls-made (k .called)
+
+-- ---- the retrace of a `plan` that is not refused
+
+called-retraced : {ws ss gs p : List ℕ} {r : Planned} {left q : List ℕ} → CallsMade ws ss gs p r left q → isAnswered (stepReply (r .answer)) ≡ true
+    → (t : RetraceAnswer) × (Retracing left (r .search) p t q × (r .«has_path» ≡ isAnswered (retraceReply t)))
+called-retraced (not-opened o f line i e) told = absurd (true≢false (sym told))
+called-retraced (to-the-end o e t i a s k) told = (t, (k, refl))
+
+pub plan-retraced : Plan.Retraced
+plan-retraced ws ss gs p r left q k told = called-retraced (k .called) told

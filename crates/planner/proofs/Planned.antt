@@ -86,7 +86,7 @@ module _ (ws ss gs p : List ℕ) where
     -- ---- the steps, and the path
 
     module _ (a : o .answer ≡ initializing.Initialized) {e : StepsTaken} {left : List ℕ} (s : Solving mid (o .search) maxSteps e left) where
-      abbrev end : AfterSteps
+      abbrev pub end : AfterSteps
       end = solve maxSteps (opens .cache) (opens .search)
 
       pub end-is : solveWords mid (o .search) maxSteps ≡ end

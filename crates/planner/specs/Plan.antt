@@ -105,6 +105,12 @@ HasPath =
     × (stepReply (r .answer) ≡ answered noPath → r .«has_path» ≡ false)
     × (r .«has_path» ≡ false → q ≡ p)
 
+-- one that is not refused has retraced: some answer of `retrace` goes with the slice left, and says as much
+abbrev pub Retraced : Type 0
+Retraced =
+    (ws ss gs p : List ℕ) (r : Planned) (left q : List ℕ) → Planning ws ss gs p r left q → isAnswered (stepReply (r .answer)) ≡ true
+    → (t : RetraceAnswer) × (Retracing left (r .search) p t q × (r .«has_path» ≡ isAnswered (retraceReply t)))
+
 -- "what the three calls one after the other give": they meet it
 abbrev pub CallsPlan : Type 0
 CallsPlan = (ws ss gs p : List ℕ) (r : Planned) (left q : List ℕ) → CallsMade ws ss gs p r left q → Planning ws ss gs p r left q
