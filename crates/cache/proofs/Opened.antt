@@ -60,7 +60,7 @@ module _ (dir : Direction) (g : Graph) (t : ℕ) where
   -- header, graph and zeros, one after the other, are the words of an opened cache
   module _ (ok : Accepted g) (ws : List ℕ) (fits : needed m l t ≤ length ws) where
     abbrev headed : List ℕ
-    headed = header ++ drop 5 ws
+    headed = header ++ drop headerWords ws
 
     abbrev graphed : List ℕ
     graphed = take headerWords headed ++ (graphWords (domain dir g) ++ drop (slotsAt m l) headed)
@@ -70,10 +70,10 @@ module _ (dir : Direction) (g : Graph) (t : ℕ) where
         let slots : slotsAt m l ≡ length header + (1 + 2 * m + 4 * l) = omega arith in
         let behind : drop (slotsAt m l) headed ≡ drop (slotsAt m l) ws =
         ap (λ (n : ℕ). drop n headed) slots
-        ∙ drop-append-add header (drop 5 ws) (1 + 2 * m + 4 * l)
-        ∙ drop-drop (1 + 2 * m + 4 * l) 5 ws
+        ∙ drop-append-add header (drop headerWords ws) (1 + 2 * m + 4 * l)
+        ∙ drop-drop (1 + 2 * m + 4 * l) headerWords ws
         ∙ ap (λ (n : ℕ). drop n ws) (sym slots) in
-        ap₂ (λ (x y : List ℕ). x ++ (graphWords (domain dir g) ++ y)) (take-at header (drop 5 ws) 5 refl) behind
+        ap₂ (λ (x y : List ℕ). x ++ (graphWords (domain dir g) ++ y)) (take-at header (drop headerWords ws) headerWords refl) behind
         ∙ sym (append-assoc header (graphWords (domain dir g)) (drop (slotsAt m l) ws))
 
     pub opened-written : take (slotsAt m l) graphed ++ (replicate (needed m l t - slotsAt m l) 0 ++ drop (needed m l t) graphed)
@@ -104,7 +104,7 @@ module _ (text : List ℕ) (z : Counts) (d t : ℕ) (ws : List ℕ) (judged : ju
 
   -- the words after the header x, m, l, then after the graph, then after the zeros
   abbrev headed-by : ℕ → ℕ → ℕ → List ℕ
-  headed-by x m l = (x ∷ m ∷ l ∷ t ∷ 0 ∷ []) ++ drop 5 ws
+  headed-by x m l = (x ∷ m ∷ l ∷ t ∷ 0 ∷ []) ++ drop headerWords ws
 
   abbrev graphed-by : ℕ → ℕ → ℕ → List ℕ
   graphed-by x m l =

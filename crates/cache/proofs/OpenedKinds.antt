@@ -8,7 +8,7 @@ use lib.ListN.{length, getD, take, replicate, length-append, length-replicate, g
 use lib.Seq.{getD-append-add}
 use Rattle.model.specs.Graph.{Graph, Direction, Domain, domain, Accepted, vertexCount, edgeCount, from, to, cost, edgeNumbers}
 use Rattle.model.proofs.Reversed.{domain-counts}
-use Rattle.layout.specs.Layout.{placesAt, numbersAt, slotsAt, treeWords, fromIn, toIn, edgeCostIn, initialIn, placeIn, numberIn}
+use Rattle.layout.specs.Layout.{headerWords, placesAt, numbersAt, slotsAt, treeWords, fromIn, toIn, edgeCostIn, initialIn, placeIn, numberIn}
 use Rattle.layout.specs.Words.{headerOf, edgeWords, firstPlace, firstPlaces, openedWords}
 use Rattle.layout.proofs.Edges.{edge-words-length, from-word, to-word, cost-word}
 use Rattle.graph.proofs.Lines.{held-initial}
@@ -37,7 +37,7 @@ module _ (dir : Direction) (g : Graph) (t : ℕ) (rest : List ℕ) where
   zeros = replicate (t * treeWords m l) 0
 
   -- direction, M, L, T, trees in use
-  pub header-words : take 5 ws ≡ headerOf dir m l t
+  pub header-words : take headerWords ws ≡ headerOf dir m l t
   unfolding openedWords
   header-words = refl
 
@@ -49,7 +49,7 @@ module _ (dir : Direction) (g : Graph) (t : ℕ) (rest : List ℕ) where
   pub initial-word : (v : ℕ) → v < m → initialIn ws v ≡ getD (g .initial) v 0
   initial-word v h =
       ap (λ (x : List ℕ). initialIn x v) apart
-      ∙ word-behind (headerOf dir m l t) (d .graph .initial) _ 5 v refl (omega (arith, domain-counts dir g .0))
+      ∙ word-behind (headerOf dir m l t) (d .graph .initial) _ headerWords v refl (omega (arith, domain-counts dir g .0))
       ∙ ap (λ (x : List ℕ). getD x v 0) (held-initial dir g)
 
   pub from-edge : (e : ℕ) → e < l → fromIn m ws e ≡ from (d .graph) e

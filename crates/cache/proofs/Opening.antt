@@ -23,7 +23,7 @@ use Rattle.text.specs.declared.counts.Judged.the-variants.{Sizes, Fault}
 use Rattle.text.specs.Read.{judge, graphOf, graphBy, judgedReply}
 use Rattle.text.proofs.Accepted.{judged-counts, read-is}
 use Rattle.text.proofs.Passed.{judged-within}
-use Rattle.layout.specs.Layout.{Sized, slotsAt, needed}
+use Rattle.layout.specs.Layout.{Sized, headerWords, slotsAt, needed}
 use Rattle.layout.specs.Read.{directionOf}
 use Rattle.graph.specs.Write.{graphWritten}
 use Rattle.graph.proofs.Parts.{put-mid}
@@ -43,7 +43,7 @@ module _ {text : List ℕ} {d t : ℕ} {z : Counts} (can : CanOpen text d t z) w
     open-short short h = rw short (sym (ap (λ (b : Bool). openIf b (graphOf text) ws d t) (lt-ltb (length ws) _ (rw same h))))
 
     -- the words after the header and after the graph, and the part from a on that was cleared
-    pub open-fits : n ≤ length ws → {headed : List ℕ} → headed ≡ (d ∷ z .vertices ∷ z .edges ∷ t ∷ 0 ∷ []) ++ drop 5 ws → length headed ≡ length ws
+    pub open-fits : n ≤ length ws → {headed : List ℕ} → headed ≡ (d ∷ z .vertices ∷ z .edges ∷ t ∷ 0 ∷ []) ++ drop headerWords ws → length headed ≡ length ws
         → {graphed : List ℕ} → graphed ≡ graphWritten (directionOf d) text z headed → length graphed ≡ length headed → {a : ℕ} → a ≡ slotsAt (z .vertices) (z .edges)
         → {cleared : List ℕ} → cleared ≡ replicate (length (take (n - a) (drop a graphed))) 0
         → afterOpen Opened (putMid a (n - a) graphed cleared) ≡ openRead (answered (graphOf text)) ws d t

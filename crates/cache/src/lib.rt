@@ -12,7 +12,7 @@ ghost use lib.ListN.{length, drop, replicate};
 ghost use Rattle.model.specs.Limits.{slotLimit};
 ghost use Rattle.model.specs.Answers.{answered};
 ghost use Rattle.text.specs.Read.{graphOf};
-ghost use Rattle.layout.specs.Layout.{Sized};
+ghost use Rattle.layout.specs.Layout.{Sized, headerWords};
 ghost use Rattle.cache.specs.Open.{Opening, afterOpen, openRead, CanOpen};
 
 // Makes a cache of a graph's text in the words lent: direction 0 forward or 1 backward, 1 to 64 tree slots. The whole text is
@@ -67,8 +67,8 @@ fn open_sized(
 }
 
 fn write_header(words: &mut [u32], direction: u32, vertices: usize, edges: usize, slots: usize)
-    requires { ⌜ (5 ≤ length (now words)) × (Sized vertices edges × (slots ≤ slotLimit)) ⌝ }
-    ensures { λ _. ⌜ now (words .exit) ≡ (direction ∷ vertices ∷ edges ∷ slots ∷ 0 ∷ []) ++ drop 5 (now (words .entry)) ⌝ }
+    requires { ⌜ (headerWords ≤ length (now words)) × (Sized vertices edges × (slots ≤ slotLimit)) ⌝ }
+    ensures { λ _. ⌜ now (words .exit) ≡ (direction ∷ vertices ∷ edges ∷ slots ∷ 0 ∷ []) ++ drop headerWords (now (words .entry)) ⌝ }
 {
     words[layout::DIRECTION] = direction;
     words[layout::VERTICES] = vertices as u32;

@@ -7,7 +7,7 @@ use native.Mathlib.Omega.{arith}
 use lib.ListN.{length, getD, take, drop}
 use lib.Seq.{drop-drop, take-at, drop-at}
 use Rattle.model.specs.Graph.{Edge, Graph, noEdge, vertexCount, edgeCount, from, to, cost}
-use Rattle.layout.specs.Layout.{headerWords, initialAt, initialIn, edgesAt, edgeAt, fromIn, toIn, edgeCostIn, part}
+use Rattle.layout.specs.Layout.{headerWords, initialAt, initialIn, edgesAt, edgeSize, edgeToAt, edgeCostAt, edgeAt, fromIn, toIn, edgeCostIn, part}
 use Rattle.layout.specs.Words.{edgeWords}
 use Rattle.layout.specs.Read.{readEdges, graphIn}
 use Rattle.layout.proofs.Places.{word-behind, part-at, part-length}
@@ -16,7 +16,7 @@ use Rattle.layout.proofs.Places.{word-behind, part-at, part-length}
 
 edges-in-length : (l : ℕ) (ws : List ℕ) → length (readEdges l ws) ≡ l
 edges-in-length zero ws = refl
-edges-in-length (suc l) ws = ap suc (edges-in-length l (drop 3 ws))
+edges-in-length (suc l) ws = ap suc (edges-in-length l (drop edgeSize ws))
 
 pub edge-count-in : (m l : ℕ) (ws : List ℕ) → edgeCount (graphIn m l ws) ≡ l
 unfolding graphIn
@@ -26,7 +26,7 @@ pub vertex-count-in : (m l : ℕ) (ws : List ℕ) → edgesAt m ≤ length ws �
 unfolding graphIn
 vertex-count-in m l ws h = part-length initialAt m ws h
 
-pub edge-words-length : (es : List Edge) → length (edgeWords es) ≡ 3 * length es
+pub edge-words-length : (es : List Edge) → length (edgeWords es) ≡ edgeSize * length es
 edge-words-length [] = refl
 edge-words-length (e ∷ es) = omega (arith, edge-words-length es)
 
@@ -46,23 +46,23 @@ initial-word m l ws v a h fits = any-default (part initialAt m ws) v a 0 (omega 
 
 -- the edge whose words stand from `at` on
 abbrev edgeFrom : List ℕ → ℕ → Edge
-edgeFrom ws at = record { from = getD ws at 0; to = getD ws (at + 1) 0; cost = getD ws (at + 2) 0 }
+edgeFrom ws at = record { from = getD ws at 0; to = getD ws (at + edgeToAt) 0; cost = getD ws (at + edgeCostAt) 0 }
 
 edge-at-drop : (n : ℕ) (ws : List ℕ) (j k : ℕ) → n + j ≡ k → edgeFrom (drop n ws) j ≡ edgeFrom ws k
 edge-at-drop n ws j k e = λ i. record {
   from = word-behind n ws j k e i;
-  to = word-behind n ws (j + 1) (k + 1) (omega arith) i;
-  cost = word-behind n ws (j + 2) (k + 2) (omega arith) i;
+  to = word-behind n ws (j + edgeToAt) (k + edgeToAt) (omega arith) i;
+  cost = word-behind n ws (j + edgeCostAt) (k + edgeCostAt) (omega arith) i;
 }
 
-edges-in-at : (l : ℕ) (ws : List ℕ) (e : ℕ) → e < l → getD (readEdges l ws) e noEdge ≡ edgeFrom ws (3 * e)
+edges-in-at : (l : ℕ) (ws : List ℕ) (e : ℕ) → e < l → getD (readEdges l ws) e noEdge ≡ edgeFrom ws (edgeSize * e)
 edges-in-at zero ws e h = absurd (omega arith)
 edges-in-at (suc l) ws zero h = refl
-edges-in-at (suc l) ws (suc e) h = edges-in-at l (drop 3 ws) e (omega arith) ∙ edge-at-drop 3 ws (3 * e) (3 * suc e) (omega arith)
+edges-in-at (suc l) ws (suc e) h = edges-in-at l (drop edgeSize ws) e (omega arith) ∙ edge-at-drop edgeSize ws (edgeSize * e) (edgeSize * suc e) (omega arith)
 
 edge-in : (m l : ℕ) (ws : List ℕ) (e : ℕ) → e < l → getD (graphIn m l ws .edges) e noEdge ≡ edgeFrom ws (edgeAt m e)
 unfolding graphIn
-edge-in m l ws e h = edges-in-at l (drop (edgesAt m) ws) e h ∙ edge-at-drop (edgesAt m) ws (3 * e) (edgeAt m e) refl
+edge-in m l ws e h = edges-in-at l (drop (edgesAt m) ws) e h ∙ edge-at-drop (edgesAt m) ws (edgeSize * e) (edgeAt m e) refl
 
 pub from-word : (m l : ℕ) (ws : List ℕ) (e : ℕ) → e < l → from (graphIn m l ws) e ≡ fromIn m ws e
 from-word m l ws e h = ap (λ (x : Edge). x .from) (edge-in m l ws e h)

@@ -11,7 +11,7 @@ use lib.Seq.{ext-getD}
 use Rattle.model.specs.Lists.{numbers}
 use Rattle.model.specs.Tree.{Node, noNode, node, closedAt}
 use Rattle.model.proofs.Lists.{up-length, map-up-at}
-use Rattle.layout.specs.Layout.{startAt, usedAt, queuedAt, startIn, usedIn, queuedIn, nodesAt, nodeSize, nodeAt, closedWordsAt, closedWordIn}
+use Rattle.layout.specs.Layout.{startAt, usedAt, queuedAt, startIn, usedIn, queuedIn, nodesAt, nodeSize, nodeAt, nodeEnd, nodeCostAt, nodeParentAt, nodeEdgeAt, closedWordsAt, closedWordIn}
 use Rattle.layout.specs.Words.{nodeWords}
 use Rattle.layout.specs.Read.{nodeIn, nodesIn, treeIn}
 use Rattle.layout.proofs.Places.{part-at, part-length}
@@ -29,18 +29,18 @@ node-at n t k h = map-up-at (nodeIn t) noNode n 0 k h ∙ ap (nodeIn t) (omega a
 pub words-node : (t : List ℕ) (k : ℕ) (x : Node) → ((i : ℕ) → i < nodeSize → getD t (nodeAt k + i) 0 ≡ getD (nodeWords x) i 0) → nodeIn t k ≡ x
 words-node t k x f = λ i. record {
   vertex = (ap (λ (j : ℕ). getD t j 0) (sym (add-zero (nodeAt k))) ∙ f 0 (omega arith)) i;
-  cost = f 1 (omega arith) i;
-  parent = f 2 (omega arith) i;
-  edge = f 3 (omega arith) i;
+  cost = f nodeCostAt (omega arith) i;
+  parent = f nodeParentAt (omega arith) i;
+  edge = f nodeEdgeAt (omega arith) i;
 }
 
 -- words that stayed hold the same node
-pub node-same : (s t : List ℕ) (k : ℕ) → ((j : ℕ) → nodeAt k ≤ j → j < nodeAt k + nodeSize → getD t j 0 ≡ getD s j 0) → nodeIn t k ≡ nodeIn s k
+pub node-same : (s t : List ℕ) (k : ℕ) → ((j : ℕ) → nodeAt k ≤ j → j < nodeEnd k → getD t j 0 ≡ getD s j 0) → nodeIn t k ≡ nodeIn s k
 node-same s t k f = λ i. record {
   vertex = f (nodeAt k) (omega arith) (omega arith) i;
-  cost = f (nodeAt k + 1) (omega arith) (omega arith) i;
-  parent = f (nodeAt k + 2) (omega arith) (omega arith) i;
-  edge = f (nodeAt k + 3) (omega arith) (omega arith) i;
+  cost = f (nodeAt k + nodeCostAt) (omega arith) (omega arith) i;
+  parent = f (nodeAt k + nodeParentAt) (omega arith) (omega arith) i;
+  edge = f (nodeAt k + nodeEdgeAt) (omega arith) (omega arith) i;
 }
 
 pub nodes-same : (n : ℕ) (s t : List ℕ) → ((j : ℕ) → nodesAt ≤ j → j < nodeAt n → getD t j 0 ≡ getD s j 0) → nodesIn n t ≡ nodesIn n s
@@ -50,20 +50,20 @@ nodes-same n s t f =
     node-at n t k h ∙ node-same s t k (λ j low high. f j (omega arith) (omega arith)) ∙ sym (node-at n s k h))
 
 -- the node fixes its words
-pub node-words : (s t : List ℕ) (k j : ℕ) → nodeAt k ≤ j → j < nodeAt k + nodeSize → nodeIn s k ≡ nodeIn t k → getD s j 0 ≡ getD t j 0
+pub node-words : (s t : List ℕ) (k j : ℕ) → nodeAt k ≤ j → j < nodeEnd k → nodeIn s k ≡ nodeIn t k → getD s j 0 ≡ getD t j 0
 node-words s t k j low high e = elim (ℕ-discrete j (nodeAt k)) [
   | yes q ↦ rw q (ap (λ (x : Node). x .vertex) e)
-  | no n0 ↦ elim (ℕ-discrete j (nodeAt k + 1)) [
+  | no n0 ↦ elim (ℕ-discrete j (nodeAt k + nodeCostAt)) [
     | yes q ↦ rw q (ap (λ (x : Node). x .cost) e)
-    | no n1 ↦ elim (ℕ-discrete j (nodeAt k + 2)) [
+    | no n1 ↦ elim (ℕ-discrete j (nodeAt k + nodeParentAt)) [
       | yes q ↦ rw q (ap (λ (x : Node). x .parent) e)
-      | no n2 ↦ let q : j ≡ nodeAt k + 3 = omega arith in rw q (ap (λ (x : Node). x .edge) e)
+      | no n2 ↦ let q : j ≡ nodeAt k + nodeEdgeAt = omega arith in rw q (ap (λ (x : Node). x .edge) e)
     ]
   ]
 ]
 
 -- each place behind the header is one of a node's
-pub node-of : (j : ℕ) → nodesAt ≤ j → (k : ℕ) × ((nodeAt k ≤ j) × (j < nodeAt k + nodeSize))
+pub node-of : (j : ℕ) → nodesAt ≤ j → (k : ℕ) × ((nodeAt k ≤ j) × (j < nodeEnd k))
 node-of j h = ((j - nodesAt) / nodeSize, (omega arith, omega arith))
 
 -- ---- a tree's own words

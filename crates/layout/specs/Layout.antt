@@ -57,14 +57,21 @@ edgeSize = 3
 abbrev pub edgeAt : ℕ → ℕ → ℕ
 edgeAt m e = edgesAt m + edgeSize * e
 
+-- the places of its words, the first of which is `from`
+abbrev pub edgeToAt : ℕ
+edgeToAt = 1
+
+abbrev pub edgeCostAt : ℕ
+edgeCostAt = 2
+
 abbrev pub fromIn : ℕ → List ℕ → ℕ → ℕ
 fromIn m ws e = getD ws (edgeAt m e) 0
 
 abbrev pub toIn : ℕ → List ℕ → ℕ → ℕ
-toIn m ws e = getD ws (edgeAt m e + 1) 0
+toIn m ws e = getD ws (edgeAt m e + edgeToAt) 0
 
 abbrev pub edgeCostIn : ℕ → List ℕ → ℕ → ℕ
-edgeCostIn m ws e = getD ws (edgeAt m e + 2) 0
+edgeCostIn m ws e = getD ws (edgeAt m e + edgeCostAt) 0
 
 abbrev pub placesAt : ℕ → ℕ → ℕ
 placesAt m l = edgeAt m l
@@ -111,18 +118,31 @@ nodeSize = 4
 abbrev pub nodeAt : ℕ → ℕ
 nodeAt k = nodesAt + nodeSize * k
 
+abbrev pub nodeEnd : ℕ → ℕ
+nodeEnd k = nodeAt k + nodeSize
+
+-- the places of its words, the first of which is the vertex
+abbrev pub nodeCostAt : ℕ
+nodeCostAt = 1
+
+abbrev pub nodeParentAt : ℕ
+nodeParentAt = 2
+
+abbrev pub nodeEdgeAt : ℕ
+nodeEdgeAt = 3
+
 -- what node k of the tree t says; its vertex is read of the cache's words ws too
 abbrev pub vertexIn : List ℕ → List ℕ → ℕ → ℕ
 vertexIn ws t k = getD t (nodeAt k) 0
 
 abbrev pub costIn : List ℕ → ℕ → ℕ
-costIn t k = getD t (nodeAt k + 1) 0
+costIn t k = getD t (nodeAt k + nodeCostAt) 0
 
 abbrev pub parentIn : List ℕ → ℕ → ℕ
-parentIn t k = getD t (nodeAt k + 2) 0
+parentIn t k = getD t (nodeAt k + nodeParentAt) 0
 
 abbrev pub edgeIn : List ℕ → ℕ → ℕ
-edgeIn t k = getD t (nodeAt k + 3) 0
+edgeIn t k = getD t (nodeAt k + nodeEdgeAt) 0
 
 abbrev pub queueAt : ℕ → ℕ
 queueAt l = nodeAt (1 + l)
@@ -159,11 +179,11 @@ pub record Sized (m l : ℕ) : Type 0 where
 
 -- n words hold node k
 abbrev pub NodeFits : ℕ → ℕ → Type 0
-NodeFits n k = nodeAt k + nodeSize ≤ n
+NodeFits n k = nodeEnd k ≤ n
 
 -- n words hold the word k of node i
 pub record NodeWord (n i k : ℕ) : Type 0 where
-  pub word : k < 4
+  pub word : k < nodeSize
   pub within : nodeAt i + k < n
 
 -- n words hold edge e
@@ -176,5 +196,5 @@ pub record EdgeFits (n m e : ℕ) : Type 0 where
 pub record EdgeWord (n m e k : ℕ) : Type 0 where
   pub vertices : m ≤ vertexLimit
   pub edge : e < edgeLimit
-  pub word : k < 3
+  pub word : k < edgeSize
   pub within : edgeAt m e + k < n

@@ -7,17 +7,17 @@ use Rattle.model.specs.Lists.{numbers, those, mem}
 use Rattle.model.specs.Graph.{Edge, Graph, Direction, forward, backward, Domain}
 use Rattle.model.specs.Tree.{Node, Tree}
 use Rattle.model.specs.Calls.{Cache}
-use Rattle.layout.specs.Layout.{directionIn, verticesIn, edgesIn, slotsIn, treesIn, startIn, usedIn, queuedIn, initialAt, edgesAt, nodeAt, costIn, parentIn, edgeIn, queueAt, closedWordsAt, treeWords, slotAt, part}
+use Rattle.layout.specs.Layout.{directionIn, verticesIn, edgesIn, slotsIn, treesIn, startIn, usedIn, queuedIn, initialAt, edgesAt, edgeSize, edgeToAt, edgeCostAt, nodeAt, costIn, parentIn, edgeIn, queueAt, closedWordsAt, treeWords, slotAt, part}
 
 -- "direction 0 forward or 1 backward"
 abbrev pub directionOf : ℕ → Direction
 directionOf zero = forward
 directionOf (suc n) = backward
 
--- l edges of three words
+-- l edges, one after the other
 abbrev pub readEdges : ℕ → List ℕ → List Edge
 readEdges zero ws = []
-readEdges (suc l) ws = record { from = getD ws 0 0; to = getD ws 1 0; cost = getD ws 2 0 } ∷ readEdges l (drop 3 ws)
+readEdges (suc l) ws = record { from = getD ws 0 0; to = getD ws edgeToAt 0; cost = getD ws edgeCostAt 0 } ∷ readEdges l (drop edgeSize ws)
 
 -- the graph as it is held: "Backward, links are turned round"
 unfoldable pub graphIn : ℕ → ℕ → List ℕ → Graph

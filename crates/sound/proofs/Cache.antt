@@ -16,7 +16,7 @@ use Rattle.model.specs.Sound.{starts, distinctb}
 use Rattle.model.proofs.Bools.{and-true, true-and, all-true, upto-at}
 use Rattle.model.proofs.Lists.{numbers-snoc}
 use Rattle.model.proofs.Tests.{distinct-at, at-distinct}
-use Rattle.layout.specs.Layout.{Sized, slotAt, directionIn, edgesIn, initialIn, slotsIn, startIn, treesIn, verticesIn}
+use Rattle.layout.specs.Layout.{Sized, headerWords, edgesAt, slotAt, directionIn, edgesIn, initialIn, slotsIn, startIn, treesIn, verticesIn}
 use Rattle.layout.specs.Read.{directionOf, graphIn, domainIn, domainOf, treeIn, readTrees, readCache}
 use Rattle.layout.specs.Sound.{headerTests, initialb, edgeTests, indexb, graphTests, zerosb, treeWordsb, treesTests, soundWordsb}
 use Rattle.layout.proofs.Sizes.{slots-fit}
@@ -40,10 +40,10 @@ fails false f = refl
 -- ---- the graph
 
 module _ (ws : List ℕ) (header : allb (headerTests ws) ≡ true) where
-  pub has-header : 5 ≤ length ws
+  pub has-header : headerWords ≤ length ws
   has-header = headed ws header .header
 
-  pub has-initials : {m : ℕ} → m ≡ verticesIn ws → 5 + m ≤ length ws
+  pub has-initials : {m : ℕ} → m ≡ verticesIn ws → edgesAt m ≤ length ws
   has-initials e = omega (arith, headed ws header .fits)
 
   module _ {m l : ℕ} (em : m ≡ verticesIn ws) (el : l ≡ edgesIn ws) where
@@ -209,7 +209,7 @@ trees-all {i} {n} ws h k e = let end : i ≡ n = omega arith in sym (rw end at e
 -- ---- all slots
 
 module _ {ws : List ℕ} (can : CanCheckTrees ws) where
-  pub trees-header : 5 ≤ length ws
+  pub trees-header : headerWords ≤ length ws
   trees-header = has-header ws (can .header)
 
   pub slots-few : {s : ℕ} → s ≡ slotsIn ws → s ≤ 64

@@ -12,7 +12,7 @@ use borrow.Author.Tests.{lt-ltb, le-ltb, eq-eqb, ne-eqb}
 use Rattle.model.specs.Lists.{allIn}
 use Rattle.model.specs.Tree.{Node, node, closedAt, evaluation}
 use Rattle.model.specs.Sound.{closerb, begunb}
-use Rattle.layout.specs.Layout.{nodeAt, queueAt, closedWordsAt, queuedIn, startIn, usedIn, vertexIn}
+use Rattle.layout.specs.Layout.{nodeEnd, queueAt, closedWordsAt, queuedIn, startIn, usedIn, vertexIn}
 use Rattle.layout.specs.Read.{treeIn}
 use Rattle.layout.proofs.Trees.{tree-nodes, tree-node}
 use Rattle.queue.specs.Queue.{evaluationIn}
@@ -70,7 +70,7 @@ module _ (l : ℕ) (ws t : List ℕ) (v c : ℕ) (at : c ≡ closedWordsAt l) (h
         sym (named ev ∙ waiting-first _ l t w _ (omega arith) ∙ ap₂ leb cost first)
 
 -- the first queue word, at place q, is a node
-pub first-fits : (l : ℕ) (t : List ℕ) (q : ℕ) → Waits l t → (queuedIn t ≡ 0 → ⊥) → q ≡ queueAt l → nodeAt (getD t q 0) + 4 ≤ length t
+pub first-fits : (l : ℕ) (t : List ℕ) (q : ℕ) → Waits l t → (queuedIn t ≡ 0 → ⊥) → q ≡ queueAt l → nodeEnd (getD t q 0) ≤ length t
 first-fits l t q w more eq =
     let node : getD t q 0 < usedIn t = rw (eq, ← add-zero (queueAt l)) (queued-node l t w 0 (omega arith)) in
     omega (arith, w .areas .used, w .areas .fits)

@@ -17,7 +17,7 @@ use Rattle.model.specs.Sound.{closedEdges, closedb, reachedb, closerb, onwardb}
 use Rattle.model.proofs.Worth.{evaluation-small, weight-small}
 use Rattle.model.proofs.Bools.{and-true, all-true, upto-at, at-upto, all-in-at, at-all-in}
 use Rattle.model.proofs.Lists.{numbers-mem, numbers-has, numbers-snoc, those-snoc}
-use Rattle.layout.specs.Layout.{nodeAt, closedWordsAt, costIn, edgeCostIn, fromIn, queuedIn, toIn, usedIn}
+use Rattle.layout.specs.Layout.{nodeEnd, closedWordsAt, costIn, edgeCostIn, fromIn, queuedIn, toIn, usedIn}
 use Rattle.layout.specs.Read.{treeIn, domainOf}
 use Rattle.layout.specs.Held.{Held}
 use Rattle.layout.proofs.Edges.{from-word, to-word, cost-word, vertex-count-in, edge-count-in}
@@ -129,7 +129,7 @@ module _ {m l : ℕ} {ws t costs : List ℕ} (h : LeadsOn m l ws t costs) {a x :
         (upto-at (closerb u) m (h .closers) x k) in
         rw (word-is, ← tree-nodes m l t) (named (length (u .nodes)) (λ i. eqb ((node (u .nodes) i) .vertex) x) (closedAt (u .closed) x) (r .0) (rw word-is at n))
 
-    closer-words : nodeAt (word - 1) + 4 ≤ length t
+    closer-words : nodeEnd (word - 1) ≤ length t
     closer-words = omega (arith, closer, h .hung .counted .used, h .hung .counted .can .len)
 
     closer-cost : evaluation (u .nodes) (word - 1) ≡ evaluationIn t (word - 1)
@@ -173,7 +173,7 @@ module _ {m l e : ℕ} {ws t costs : List ℕ} (h : LeadsOn m l ws t costs) (k :
   onward-open z = sym (rw (← leaves .0, ← word-is h p (leaves .1), z))
 
   module _ (n : getD t (a + f) 0 ≢ 0) where
-    pub onward-closer : nodeAt (getD t (a + f) 0 - 1) + 4 ≤ length t
+    pub onward-closer : nodeEnd (getD t (a + f) 0 - 1) ≤ length t
     onward-closer = closer-words h p (leaves .1) n
 
     -- x: the evaluation of the node that closed its first end, y: what the edge weighs
@@ -208,7 +208,7 @@ module _ {m l : ℕ} {ws t costs : List ℕ} {e a o s : ℕ} (w : Sum m l ws t c
   pub has-least : o < length costs
   has-least = omega (arith, w .enters, w .on .least .len, w .on .hung .counted .can .held .sized .vertices)
 
-  pub reached-closer : getD t (a + o) 0 ≢ 0 → nodeAt (getD t (a + o) 0 - 1) + 4 ≤ length t
+  pub reached-closer : getD t (a + o) 0 ≢ 0 → nodeEnd (getD t (a + o) 0 - 1) ≤ length t
   reached-closer n = closer-words (w .on) (w .words) (w .enters) n
 
   pub onward-shut : {v : ℕ} → getD t (a + o) 0 ≢ 0 → v ≡ evaluationIn t (getD t (a + o) 0 - 1) → v ≤ s → true ≡ onwardb (domainOf m l ws) (treeIn m l t) e

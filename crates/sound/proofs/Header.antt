@@ -15,7 +15,7 @@ use lib.Seq.{drop-cons}
 use Rattle.model.specs.Lists.{allb}
 use Rattle.model.specs.Graph.{Graph, absent, from, to, vertexCount}
 use Rattle.model.proofs.Bools.{all-true, true-given, true-or-left}
-use Rattle.layout.specs.Layout.{Sized, nodeAt, queueAt, closedWordsAt, needed, part, directionIn, edgeCostIn, edgesIn, fromIn, queuedIn, slotsIn, toIn, treesIn, usedIn, verticesIn}
+use Rattle.layout.specs.Layout.{Sized, headerWords, nodeAt, queueAt, closedWordsAt, needed, part, directionIn, edgeCostIn, edgesIn, fromIn, queuedIn, slotsIn, toIn, treesIn, usedIn, verticesIn}
 use Rattle.layout.specs.Read.{graphIn}
 use Rattle.layout.specs.Sound.{headerTests, initialb, edgeTests, zerosb, spareTests}
 use Rattle.layout.proofs.Edges.{vertex-count-in, from-word, to-word, cost-word}
@@ -26,7 +26,7 @@ use Rattle.sound.proofs.Tests.{all-fails, read-last}
 
 module _ (ws : List ℕ) where
   pub short-fails : length ws ≤ 4 → false ≡ allb (headerTests ws)
-  short-fails h = sym (all-fails (headerTests ws) 0 (lt-leb 5 (length ws) (omega arith)))
+  short-fails h = sym (all-fails (headerTests ws) 0 (lt-leb headerWords (length ws) (omega arith)))
 
   pub direction-fails : 1 < directionIn ws → false ≡ allb (headerTests ws)
   direction-fails h = sym (all-fails (headerTests ws) 1 (lt-leb (directionIn ws) 1 h))
@@ -52,7 +52,7 @@ module _ (ws : List ℕ) where
   header-last {m} {l} {t} {u} {n} a b em hm el hl et some ht eu hu en =
       ap (λ (x : ℕ). leb x (length ws)) (en ∙ (λ i. needed (em i) (el i) (et i)))
       ∙ read-last {cs = headerTests ws} refl 7 refl
-      (le-leb 5 (length ws) (omega arith))
+      (le-leb headerWords (length ws) (omega arith))
       (le-leb (directionIn ws) 1 b)
       (le-leb (verticesIn ws) 1024 (omega arith))
       (le-leb (edgesIn ws) 2048 (omega arith))
@@ -62,7 +62,7 @@ module _ (ws : List ℕ) where
 
 -- what is so if all pass: m vertices, l edges, u of s slots in use
 pub record Headed (m l s u : ℕ) (ws : List ℕ) : Type 0 where
-  pub header : 5 ≤ length ws
+  pub header : headerWords ≤ length ws
   pub direction : directionIn ws ≤ 1
   pub sized : Sized m l
   pub some-slot : 1 ≤ s

@@ -15,7 +15,7 @@ use lib.Seq.{getD-drop}
 use Rattle.model.specs.Lists.{allb, upto}
 use Rattle.model.specs.Graph.{Graph, Domain, Accepted, absent, from, to, cost, vertexCount, edgeCount, edgeNumbers}
 use Rattle.model.proofs.Bools.{AllTrue, or-cases, true-or-left, true-or-right, all-true, true-given, upto-at, at-upto, upto-same}
-use Rattle.layout.specs.Layout.{Sized, initialAt, edgesAt, placesAt, numbersAt, slotsAt, part, edgesIn, verticesIn, initialIn, fromIn, toIn, placeIn, numberIn}
+use Rattle.layout.specs.Layout.{Sized, directionAt, treeCountAt, initialAt, edgesAt, edgeSize, edgeToAt, edgeCostAt, placesAt, numbersAt, slotsAt, part, edgesIn, verticesIn, initialIn, fromIn, toIn, placeIn, numberIn}
 use Rattle.layout.specs.Words.{firstPlace, firstPlaces}
 use Rattle.layout.specs.Read.{directionOf, readEdges, graphIn, domainOf, readCache}
 use Rattle.layout.specs.Sound.{headerTests, initialb, edgeTests, indexTests, indexb, graphTests}
@@ -148,14 +148,14 @@ at-held ws held = subst (λ (d : Domain). allb (graphTests d ws) ≡ true) (sym 
 
 -- ---- where the words before the slots stay
 
-edges-same : (l : ℕ) (ws ws′ : List ℕ) → ((j : ℕ) → j < 3 * l → getD ws′ j 0 ≡ getD ws j 0) → readEdges l ws′ ≡ readEdges l ws
+edges-same : (l : ℕ) (ws ws′ : List ℕ) → ((j : ℕ) → j < edgeSize * l → getD ws′ j 0 ≡ getD ws j 0) → readEdges l ws′ ≡ readEdges l ws
 edges-same zero ws ws′ f = refl
 edges-same (suc l) ws ws′ f = λ i.
-    record { from = f 0 (omega arith) i; to = f 1 (omega arith) i; cost = f 2 (omega arith) i }
-    ∷ edges-same l (drop 3 ws) (drop 3 ws′) (λ j h. getD-drop 3 ws′ j 0 ∙ f (3 + j) (omega arith) ∙ sym (getD-drop 3 ws j 0)) i
+    record { from = f 0 (omega arith) i; to = f edgeToAt (omega arith) i; cost = f edgeCostAt (omega arith) i }
+    ∷ edges-same l (drop edgeSize ws) (drop edgeSize ws′) (λ j h. getD-drop edgeSize ws′ j 0 ∙ f (edgeSize + j) (omega arith) ∙ sym (getD-drop edgeSize ws j 0)) i
 
 -- the header and the graph's words stay, but for the count of trees in use
-module _ (m l : ℕ) (ws ws′ : List ℕ) (len : length ws′ ≡ length ws) (same : (j : ℕ) → j ≢ 4 → j < slotsAt m l → getD ws′ j 0 ≡ getD ws j 0) where
+module _ (m l : ℕ) (ws ws′ : List ℕ) (len : length ws′ ≡ length ws) (same : (j : ℕ) → j ≢ treeCountAt → j < slotsAt m l → getD ws′ j 0 ≡ getD ws j 0) where
   graph-same : slotsAt m l ≤ length ws → graphIn m l ws′ ≡ graphIn m l ws
   unfolding graphIn
   graph-same fits = λ i. record { initial = initials i; edges = edges i }
@@ -168,7 +168,7 @@ module _ (m l : ℕ) (ws ws′ : List ℕ) (len : length ws′ ≡ length ws) (s
           getD-drop (edgesAt m) ws′ j 0 ∙ same (edgesAt m + j) (omega arith) (omega arith) ∙ sym (getD-drop (edgesAt m) ws j 0))
 
   pub domain-same : slotsAt m l ≤ length ws → domainOf m l ws′ ≡ domainOf m l ws
-  domain-same fits = λ i. record { direction = directionOf (same 0 (omega arith) (omega arith) i); graph = graph-same fits i }
+  domain-same fits = λ i. record { direction = directionOf (same directionAt (omega arith) (omega arith) i); graph = graph-same fits i }
 
   pub held-same : Held m l ws → Held m l ws′
   held-same h = record {
@@ -182,10 +182,10 @@ module _ (m l : ℕ) (ws ws′ : List ℕ) (len : length ws′ ≡ length ws) (s
 -- ---- what is known where the tests of initial costs and edges passed
 
 -- the initial costs, as the words and as the graph have them
-pub initials-as : (m l : ℕ) (ws : List ℕ) → 5 + m ≤ length ws → upto (λ v. initialb (initialIn ws v)) m ≡ upto (λ v. initialb (getD (graphIn m l ws .initial) v absent)) m
+pub initials-as : (m l : ℕ) (ws : List ℕ) → edgesAt m ≤ length ws → upto (λ v. initialb (initialIn ws v)) m ≡ upto (λ v. initialb (getD (graphIn m l ws .initial) v absent)) m
 initials-as m l ws h = upto-same _ _ m (λ v k. ap initialb (sym (initial-word m l ws v absent k h)))
 
-module _ (m l : ℕ) (ws : List ℕ) (fits : 5 + m ≤ length ws) (passed : upto (λ e. allb (edgeTests (graphIn m l ws) e)) l ≡ true) where
+module _ (m l : ℕ) (ws : List ℕ) (fits : edgesAt m ≤ length ws) (passed : upto (λ e. allb (edgeTests (graphIn m l ws) e)) l ≡ true) where
   abbrev held : Graph
   held = graphIn m l ws
 

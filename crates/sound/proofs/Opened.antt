@@ -19,7 +19,7 @@ use Rattle.model.proofs.Bools.{and-true, true-and}
 use Rattle.model.proofs.Reversed.{accepted-domain, domain-twice, domain-counts}
 use Rattle.text.specs.Print.{printed}
 use Rattle.text.proofs.Printed.{prints}
-use Rattle.layout.specs.Layout.{initialAt, edgesAt, placesAt, numbersAt, slotsAt, needed, directionIn, edgesIn, slotsIn, treesIn, verticesIn, edgeAt}
+use Rattle.layout.specs.Layout.{headerWords, vertexCountAt, edgeCountAt, treeCountAt, initialAt, edgesAt, edgeSize, edgeToAt, edgeCostAt, placesAt, numbersAt, slotsAt, needed, directionIn, edgesIn, slotsIn, treesIn, verticesIn, edgeAt}
 use Rattle.layout.specs.Words.{directionWord, firstPlace, openedWords}
 use Rattle.layout.specs.Read.{directionOf, graphIn, domainOf, readCache}
 use Rattle.layout.specs.Sound.{headerTests, graphTests, treesTests, soundWordsb}
@@ -109,10 +109,10 @@ module _ (m l : ℕ) (a b : List ℕ) (ha : Held m l a) (hb : Held m l b) (one :
   alike : (f : Domain → ℕ) (i : ℕ) → f (domainOf m l a) ≡ getD a i 0 → f (domainOf m l b) ≡ getD b i 0 → getD a i 0 ≡ getD b i 0
   alike f i p q = sym p ∙ ap f one ∙ q
 
-  alike-edge : (e k : ℕ) → e < l → k < 3 → getD a (edgeAt m e + k) 0 ≡ getD b (edgeAt m e + k) 0
+  alike-edge : (e k : ℕ) → e < l → k < edgeSize → getD a (edgeAt m e + k) 0 ≡ getD b (edgeAt m e + k) 0
   alike-edge e zero h lt = rw add-zero (alike (λ d. from (d .graph) e) (edgeAt m e) (from-word m l a e h) (from-word m l b e h))
-  alike-edge e (suc zero) h lt = alike (λ d. to (d .graph) e) (edgeAt m e + 1) (to-word m l a e h) (to-word m l b e h)
-  alike-edge e (suc (suc zero)) h lt = alike (λ d. cost (d .graph) e) (edgeAt m e + 2) (cost-word m l a e h) (cost-word m l b e h)
+  alike-edge e (suc zero) h lt = alike (λ d. to (d .graph) e) (edgeAt m e + edgeToAt) (to-word m l a e h) (to-word m l b e h)
+  alike-edge e (suc (suc zero)) h lt = alike (λ d. cost (d .graph) e) (edgeAt m e + edgeCostAt) (cost-word m l a e h) (cost-word m l b e h)
   alike-edge e (suc (suc (suc k))) h lt = absurd (omega arith)
 
   -- the word at place i of an area, by its place among all words
@@ -124,8 +124,8 @@ module _ (m l : ℕ) (a b : List ℕ) (ha : Held m l a) (hb : Held m l b) (one :
     | yes h ↦ let v : ℕ = j - initialAt in
         placed j initialAt v (omega arith) (alike (λ d. getD (d .graph .initial) v 0) (initialAt + v) (initial-word m l a v 0 (omega arith) (omega (arith, ha .fits))) (initial-word m l b v 0 (omega arith) (omega (arith, hb .fits))))
     | no h ↦ elim (decLt j (placesAt m l)) [
-      | yes k ↦ let e : ℕ = (j - edgesAt m) / 3 in
-          placed j (edgeAt m e) (j - edgesAt m - 3 * e) (omega arith) (alike-edge e (j - edgesAt m - 3 * e) (omega arith) (omega arith))
+      | yes k ↦ let e : ℕ = (j - edgesAt m) / edgeSize in
+          placed j (edgeAt m e) (j - edgesAt m - edgeSize * e) (omega arith) (alike-edge e (j - edgesAt m - edgeSize * e) (omega arith) (omega arith))
       | no k ↦ elim (decLt j (numbersAt m l)) [
         | yes n ↦ let v : ℕ = j - placesAt m l in
             placed j (placesAt m l) v (omega arith) (alike (λ d. firstPlace d v) (placesAt m l + v) (sym (ha .place v (omega arith))) (sym (hb .place v (omega arith))))
@@ -190,7 +190,7 @@ module _ (ws : List ℕ) where
         ∙ opened-domain dir textGraph slots rest
         ∙ domain-twice dir (graphIn vertices edges ws)
 
-    header-same : (j : ℕ) → j < 5 → j ≢ 4 → getD left j 0 ≡ getD ws j 0
+    header-same : (j : ℕ) → j < headerWords → j ≢ treeCountAt → getD left j 0 ≡ getD ws j 0
     unfolding openedWords
     header-same zero h n = word-of (directionIn ws) (ok .direction)
     header-same (suc zero) h n = counts .0
@@ -203,7 +203,7 @@ module _ (ws : List ℕ) where
       text = printed textGraph;
       left = left;
       opens = demand-1 ws (printed textGraph) (directionIn ws) slots Opened left accepts .opened refl;
-      same = λ j h n. elim (decLt j 5) [
+      same = λ j h n. elim (decLt j headerWords) [
         | yes k ↦ header-same j k n
         | no k ↦ graph-words vertices edges left ws (held-as dir textGraph slots rest accepted vertices edges counts) held same-domain j (omega arith) h
       ];
@@ -218,12 +218,12 @@ module _ (ws : List ℕ) where
     abbrev written-graph : Graph
     written-graph = opening .graph
 
-    word : (j : ℕ) → j < 5 → j ≢ 4 → getD (written (openedWords dir written-graph slots) ws) j 0 ≡ getD ws j 0
+    word : (j : ℕ) → j < headerWords → j ≢ treeCountAt → getD (written (openedWords dir written-graph slots) ws) j 0 ≡ getD ws j 0
     word j h n = ap (λ (x : List ℕ). getD x j 0) (sym (opening .words)) ∙ such .same j (omega arith) n
 
     sizes : (vertexCount written-graph ≡ vertices) × (edgeCount written-graph ≡ edges)
     unfolding openedWords
-    sizes = (word 1 (omega arith) (omega arith), word 2 (omega arith) (omega arith))
+    sizes = (word vertexCountAt (omega arith) (omega arith), word edgeCountAt (omega arith) (omega arith))
 
     left-held : Held vertices edges (such .left)
     left-held = rw (opening .words) (held-as dir written-graph slots _ (opening .accepted) vertices edges sizes)

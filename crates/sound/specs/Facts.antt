@@ -6,7 +6,7 @@ use Prim.Native.Nat.{ℕ, _<_, _≤_}
 use lib.ListN.{length, getD}
 use Rattle.model.specs.Limits.{slotLimit}
 use Rattle.model.specs.Sound.{Sound}
-use Rattle.layout.specs.Layout.{slotAt, needed, directionIn, edgesIn, slotsIn, startIn, treesIn, verticesIn}
+use Rattle.layout.specs.Layout.{headerWords, slotAt, needed, directionIn, edgesIn, slotsIn, startIn, treesIn, verticesIn}
 use Rattle.layout.specs.Read.{treeIn, domainOf}
 use Rattle.layout.specs.declared.slots.Slot.{Slot}
 use Rattle.layout.specs.Slots.{slotWords, SlotIs, wordsIn}
@@ -15,7 +15,7 @@ use Rattle.tree.specs.Tree.{Formed}
 
 -- m vertices, l edges, u of s slots in use
 pub record SoundIn (m l s u : ℕ) (ws : List ℕ) : Type 0 where
-  pub header : 5 ≤ length ws
+  pub header : headerWords ≤ length ws
   pub direction : directionIn ws ≤ 1
   pub some-slot : 1 ≤ s
   pub slots : s ≤ slotLimit

@@ -7,7 +7,7 @@ use mathlib.Core.List.{List}
 use Prim.Native.Nat.{ℕ, _<_, _≤_}
 use lib.ListN.{getD}
 use Rattle.model.specs.Lists.{allb}
-use Rattle.layout.specs.Layout.{slotsAt, directionIn, edgesIn, slotsIn, treesIn, verticesIn}
+use Rattle.layout.specs.Layout.{treeCountAt, slotsAt, directionIn, edgesIn, slotsIn, treesIn, verticesIn}
 use Rattle.layout.specs.Read.{readCache}
 use Rattle.layout.specs.Sound.{headerTests, graphTests}
 use Rattle.cache.specs.Demand1.{Opens}
@@ -18,7 +18,7 @@ pub record SuchAsOpening (ws : List ℕ) : Type 0 where
   pub text : List ℕ
   pub left : List ℕ
   pub opens : Opens ws text (directionIn ws) (slotsIn ws) left
-  pub same : (j : ℕ) → j < slotsAt (verticesIn ws) (edgesIn ws) → j ≢ 4 → getD left j 0 ≡ getD ws j 0
+  pub same : (j : ℕ) → j < slotsAt (verticesIn ws) (edgesIn ws) → j ≢ treeCountAt → getD left j 0 ≡ getD ws j 0
   pub used : treesIn ws ≤ slotsIn ws
 
 -- the tests of header and graph, of which the definition of sound words is made, pass exactly of such words

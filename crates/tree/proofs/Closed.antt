@@ -11,7 +11,7 @@ use lib.ListN.{length, getD, set, take, drop, length-set}
 use lib.Seq.{getD-set-same, getD-set-other, take-set-lt, take-set-le, drop-set-add}
 use Rattle.model.specs.Lists.{numbers, those, mem}
 use Rattle.model.specs.Tree.{evaluationOf, evaluation, close, closedAt}
-use Rattle.layout.specs.Layout.{queueAt, closedWordsAt, part, queuedIn, usedIn, startAt, queueWordIn, closedWordIn, NodeFits}
+use Rattle.layout.specs.Layout.{queueAt, closedWordsAt, part, queuedIn, usedIn, startAt, usedAt, queuedAt, queueWordIn, closedWordIn, NodeFits}
 use Rattle.layout.specs.Read.{nodesIn, treeIn}
 use Rattle.layout.proofs.Trees.{nodes-same, tree-node, tree-closed}
 use Rattle.queue.specs.Queue.{evaluationIn, rank}
@@ -70,10 +70,10 @@ module _ {l : ℕ} {s : List ℕ} {v n : ℕ} (c : CanClose l s v n) where
   same i h = getD-set-other s (closedWordsAt l + v) i (n + 1) 0 (omega arith)
 
   used : usedIn closing ≡ usedIn s
-  used = same 1 (omega arith)
+  used = same usedAt (omega arith)
 
   queued : queuedIn closing ≡ queuedIn s
-  queued = same 2 (omega arith)
+  queued = same queuedAt (omega arith)
 
   within : queueAt l + queuedIn s ≤ closedWordsAt l
   within = omega (arith, c .formed .used, c .formed .queued)

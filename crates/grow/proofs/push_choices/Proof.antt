@@ -13,16 +13,20 @@ Inv-loop words₀ s node vertex cost numbers slots place₀ end words place = Pu
 abbrev μ-loop : tie.MeasureT-loop
 μ-loop words₀ s node vertex cost numbers slots place₀ end words place = end - place
 
+-- the start, seen from where the vertex is known
+abbrev at-start : tie.After-wide Inv-loop μ-loop → tie.Start Inv-loop μ-loop
+at-start c = c .before .before .before .before .before
+
 first-place-requires : tie.Need-first-place-requires Inv-loop μ-loop
-first-place-requires c κs = can-find (c .before .before .before .before .before .pre) _ (omega (arith, c .wide .ensures))
+first-place-requires c κs = can-find (at-start c .pre) _ (omega (arith, c .wide .ensures))
 
 first-place-requires-2 : tie.Need-first-place-requires-2 Inv-loop μ-loop
-first-place-requires-2 c κs = can-find (c .before .before .before .before .before .before .before .before .pre) _ (omega (arith, c .wide2 .ensures))
+first-place-requires-2 c κs = can-find (at-start (c .before .before .before) .pre) _ (omega (arith, c .wide2 .ensures))
 
 loop-holds : tie.Need-loop-holds Inv-loop μ-loop
 loop-holds c =
     let a = c .before .before .before in
-    pushing-none (a .before .before .before .before .before .before .pre) _
+    pushing-none (at-start (a .before) .pre) _
     (a .before .wide .ensures) (a .first-place .ensures) (c .before .wide2 .ensures) (c .first-place2 .ensures)
 
 returns : tie.Need-returns Inv-loop μ-loop

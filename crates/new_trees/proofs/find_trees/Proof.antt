@@ -23,12 +23,12 @@ abbrev μ-loop : tie.MeasureT-loop
 loop-holds : tie.Need-loop-holds Inv-loop μ-loop
 loop-holds c = (table-none (c .before .before .before .pre .zeros), refl)
 
-abbrev at-start : tie.In-loop Inv-loop μ-loop → tie.Start Inv-loop μ-loop
-at-start c = c .before .before .before .before .before
+abbrev at-start : tie.At-loop Inv-loop μ-loop → tie.Start Inv-loop μ-loop
+at-start g = g .before .before .before .before
 
 -- the slot of the turn is in use
-in-use : (c : tie.In-loop Inv-loop μ-loop) → InUse (at-start c .args .words .now) (c .before .loop .i)
-in-use c = record { sound = at-start c .pre .sound; slot = omega (arith, c .before .before .header .ensures, c .loop-test .taken) }
+in-use : (c : tie.In-loop Inv-loop μ-loop) → InUse (at-start (c .before) .args .words .now) (c .before .loop .i)
+in-use c = record { sound = at-start (c .before) .pre .sound; slot = omega (arith, c .before .before .header .ensures, c .loop-test .taken) }
 
 slot-words-requires : tie.Need-slot-words-requires Inv-loop μ-loop
 slot-words-requires c κs = has-slot (in-use c)
@@ -41,7 +41,7 @@ module _ (c : tie.After-wide Inv-loop μ-loop) where
   abbrev at-loop : tie.In-loop Inv-loop μ-loop
   at-loop = c .before .before .before
 
-  start : c .wide .result ≡ tree (readCache (at-start at-loop .args .words .now) .trees) (at-loop .before .loop .i) .start
+  start : c .wide .result ≡ tree (readCache (at-start (at-loop .before) .args .words .now) .trees) (at-loop .before .loop .i) .start
   start = let u = in-use at-loop in start-read (u .sound) (u .slot) (c .before .before .slot-words .ensures) (c .wide .ensures)
 
   small : c .wide .result < 1024
@@ -62,7 +62,7 @@ loop-again c =
 returns : tie.Need-returns Inv-loop μ-loop
 returns c =
     let g = c .before in
-    table-all (g .before .before .before .before .args .words .now) (g .loop .i) (g .loop .inv .0) (omega (arith, g .before .header .ensures))
+    table-all (at-start g .args .words .now) (g .loop .i) (g .loop .inv .0) (omega (arith, g .before .header .ensures))
 
 pub find-trees-spec : {M : Type 1} → statement M
 find-trees-spec =

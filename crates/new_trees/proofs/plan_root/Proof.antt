@@ -10,8 +10,8 @@ use Rattle.new_trees.proofs.plan_root.Tie as tie
 abbrev at-start : tie.After-root-cost → tie.Start
 at-start r = r .before .before .before .before
 
-abbrev at-cost : tie.After-slice-known2 → tie.After-root-cost
-at-cost t = t .before .before .before .before
+abbrev at-if1 : tie.After-slice-known2 → tie.Else1
+at-if1 t = t .before .before .before
 
 returns : tie.Need-returns
 returns c = let r = c .before in plan-skips (at-start r .pre) (r .before .wide .ensures) (r .root-cost .ensures) (c .if1 .taken)
@@ -19,15 +19,17 @@ returns c = let r = c .before in plan-skips (at-start r .pre) (r .before .wide .
 returns-2 : tie.Need-returns-2
 returns-2 c =
     let t = c .before .before .before in
-    let r = at-cost (t .before) in
-    plan-shares (at-start r .pre) (r .before .wide .ensures) (r .root-cost .ensures) (t .before .before .before .before .if1 .left)
+    let e = at-if1 (t .before) in
+    let r = e .before in
+    plan-shares (at-start r .pre) (r .before .wide .ensures) (r .root-cost .ensures) (e .if1 .left)
     (t .before .before .wide2 .ensures) refl (t .if2 .taken) (c .before .wide3 .ensures) (c .with-entry .ensures)
 
 returns-3 : tie.Need-returns-3
 returns-3 c =
     let t = c .before .before .before .before in
-    let r = at-cost (t .before) in
-    plan-plants (at-start r .pre) (r .before .wide .ensures) (r .root-cost .ensures) (t .before .before .before .before .if1 .left)
+    let e = at-if1 (t .before) in
+    let r = e .before in
+    plan-plants (at-start r .pre) (r .before .wide .ensures) (r .root-cost .ensures) (e .if1 .left)
     (t .before .before .wide2 .ensures) refl (t .if2 .left) (c .before .before .header .ensures) (c .before .wide4 .ensures) (c .with-entry2 .ensures)
 
 pub plan-root-spec : {M : Type 1} → statement M

@@ -49,24 +49,31 @@ module _ (m : ℕ) where
   node-vertex-requires : lts.Need-node-vertex-requires (calls m) (at m) reads.Post
   node-vertex-requires c κs = hung-fits _ _ (c .before .before .before .pre .1 .hung)
 
+  -- the start, seen from where the node's vertex was read
+  abbrev first : lts.After-node-vertex (calls m) (at m) reads.Post → lts.Start (calls m) (at m) reads.Post
+  first v = v .before .before .before .before
+
   slice-write-path : lts.Need-slice-write-path (calls m) (at m) reads.Post
-  slice-write-path c = omega (arith, c .before .before .before .before .before .pre .1 .room)
+  slice-write-path c = omega (arith, first (c .before) .pre .1 .room)
 
   same-length : lts.Need-same-length (calls m) (at m) reads.Post
   same-length c = search length-set
 
   returns : lts.Need-returns (calls m) (at m) reads.Post
-  returns c = root-backtracks (c .before .before .before .before .before .pre .1) (c .before .node-vertex .ensures) (c .if1 .taken)
+  returns c = root-backtracks (first (c .before) .pre .1) (c .before .node-vertex .ensures) (c .if1 .taken)
 
   node-parent-requires : lts.Need-node-parent-requires (calls m) (at m) reads.Post
-  node-parent-requires c κs = hung-fits _ _ (c .before .before .before .before .before .pre .1 .hung)
+  node-parent-requires c κs = hung-fits _ _ (first (c .before) .pre .1 .hung)
 
   node-edge-requires : lts.Need-node-edge-requires (calls m) (at m) reads.Post
-  node-edge-requires c κs = hung-fits _ _ (c .before .before .before .before .before .before .before .pre .1 .hung)
+  node-edge-requires c κs = hung-fits _ _ (first (c .before .before .before) .pre .1 .hung)
 
-  -- the node was read
+  -- the node was read: its vertex, and the start
+  abbrev at-vertex : lts.After-node-edge (calls m) (at m) reads.Post → lts.After-node-vertex (calls m) (at m) reads.Post
+  at-vertex c = c .before .before .before .before
+
   abbrev start : lts.After-node-edge (calls m) (at m) reads.Post → lts.Start (calls m) (at m) reads.Post
-  start c = c .before .before .before .before .before .before .before .before
+  start c = first (at-vertex c)
 
   child : (c : lts.After-node-edge (calls m) (at m) reads.Post) → Below
       (start c .args .words .now)
@@ -74,7 +81,7 @@ module _ (m : ℕ) where
       (start c .args .node)
       (c .before .wide .result)
       (c .node-edge .result)
-      (c .before .before .before .before .node-vertex .result)
+      (at-vertex c .node-vertex .result)
       (length (start c .args .path .now))
   child c =
       record {
@@ -82,7 +89,7 @@ module _ (m : ℕ) where
         child = c .before .before .before .if1 .left;
         parent = c .before .wide .ensures ∙ c .before .before .node-parent .ensures;
         edge = c .node-edge .ensures;
-        vertex = c .before .before .before .before .node-vertex .ensures;
+        vertex = at-vertex c .node-vertex .ensures;
       }
 
   direction-within : lts.Need-shared-slice-read-if2 (calls m) (at m) reads.Post

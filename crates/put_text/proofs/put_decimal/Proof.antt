@@ -13,15 +13,18 @@ use Rattle.put_text.proofs.put_decimal.Tie as tie
 part-put-bytes-end : tie.Need-part-put-bytes-end
 part-put-bytes-end c = omega (arith, c .before .before .before .digits-of .ensures .room)
 
+abbrev at-digits : tie.After-put-bytes-arg2 → tie.After-digits-of
+at-digits c = c .before .before .before .before
+
 -- the part put is the number's text
-put : (c : tie.After-put-bytes-arg2) → let d = c .before .before .before .before in
+put : (c : tie.After-put-bytes-arg2) → let d = at-digits c in
     take (10 - d .digits-of .result .from) (drop (d .digits-of .result .from) (d .digits-of .result .bytes)) ≡ decimal (d .before .before .args .n)
 put c =
-    let d = c .before .before .before .before .digits-of in
+    let d = at-digits c .digits-of in
     part-of-ten (d .result .bytes) (d .result .from) (d .ensures .room) ∙ d .ensures .digits
 
 put-bytes-requires : tie.Need-put-bytes-requires
-put-bytes-requires c κs = rw (put c) (c .before .before .before .before .before .before .pre .1)
+put-bytes-requires c κs = rw (put c) (at-digits c .before .before .pre .1)
 
 returns : tie.Need-returns
 returns c = let p = c .before .before in rw (put (p .before)) at (p .put-bytes .ensures)

@@ -11,18 +11,28 @@ use Rattle.put_text.proofs.GraphLines.{field-length, edge-length, edge-
 use Rattle.put_text.proofs.put_edge.Statement.{statement}
 use Rattle.put_text.proofs.put_edge.Tie as tie
 
+-- each part from the next
+abbrev at-letters : tie.After-put-field → tie.After-put-bytes
+at-letters c = c .before .before .before .before
+
+abbrev at-from : tie.After-put-field2 → tie.After-put-field
+at-from c = c .before .before .before .before
+
+abbrev at-to : tie.After-put-decimal → tie.After-put-field2
+at-to c = c .before .before .before .before
+
 -- the start of the call, seen from behind each part
 abbrev start1 : tie.After-put-bytes → tie.Start
 start1 c = c .before .before .before .before
 
 abbrev start2 : tie.After-put-field → tie.Start
-start2 c = start1 (c .before .before .before .before)
+start2 c = start1 (at-letters c)
 
 abbrev start3 : tie.After-put-field2 → tie.Start
-start3 c = start2 (c .before .before .before .before)
+start3 c = start2 (at-from c)
 
 abbrev start4 : tie.After-put-decimal → tie.Start
-start4 c = start3 (c .before .before .before .before)
+start4 c = start3 (at-to c)
 
 -- where each part ends, and that no byte is lost
 first : (c : tie.After-put-bytes) → (c .put-bytes .result ≡ start1 c .args .at + 2) × (length (c .put-bytes .last .0) ≡ length (start1 c .args .out .now))
@@ -30,17 +40,17 @@ first c = omega (arith, c .put-bytes .ensures .end, c .put-bytes .kept .0)
 
 second : (c : tie.After-put-field)
     → (c .put-field .result ≡ start2 c .args .at + 3 + length (decimal (start2 c .args .from))) × (length (c .put-field .last .0) ≡ length (start2 c .args .out .now))
-second c = omega (arith, first (c .before .before .before .before), c .put-field .ensures .end, c .put-field .kept .0, field-length (start2 c .args .from))
+second c = omega (arith, first (at-letters c), c .put-field .ensures .end, c .put-field .kept .0, field-length (start2 c .args .from))
 
 third : (c : tie.After-put-field2)
     → (c .put-field2 .result ≡ start3 c .args .at + 4 + length (decimal (start3 c .args .from)) + length (decimal (start3 c .args .to)))
     × (length (c .put-field2 .last .0) ≡ length (start3 c .args .out .now))
-third c = omega (arith, second (c .before .before .before .before), c .put-field2 .ensures .end, c .put-field2 .kept .0, field-length (start3 c .args .to))
+third c = omega (arith, second (at-from c), c .put-field2 .ensures .end, c .put-field2 .kept .0, field-length (start3 c .args .to))
 
 fourth : (c : tie.After-put-decimal)
     → (c .put-decimal .result ≡ start4 c .args .at + 4 + length (decimal (start4 c .args .from)) + length (decimal (start4 c .args .to)) + length (decimal (start4 c .args .cost)))
     × (length (c .put-decimal .last .0) ≡ length (start4 c .args .out .now))
-fourth c = omega (arith, third (c .before .before .before .before), c .put-decimal .ensures .end, c .put-decimal .kept .0)
+fourth c = omega (arith, third (at-to c), c .put-decimal .ensures .end, c .put-decimal .kept .0)
 
 long : (s : tie.Start)
     → s .args .at + (5 + (length (decimal (s .args .from)) + (length (decimal (s .args .to)) + length (decimal (s .args .cost))))) ≤ length (s .args .out .now)
@@ -64,9 +74,9 @@ put-byte-requires c κs = let d = c .before .before .before in omega (arith, fou
 returns : tie.Need-returns
 returns c =
     let k = c .before .before .before .before .before .before in
-    let n = k .before .before .before .before in
-    let m = n .before .before .before .before in
-    let b = m .before .before .before .before in
+    let n = at-to k in
+    let m = at-from n in
+    let b = at-letters m in
     let s = start4 k in
     let room = long s in
     let cost = puts-then (omega (arith, room, third n)) (k .put-decimal .ensures) (c .before .before .put-byte .ensures) in

@@ -12,15 +12,22 @@ use Rattle.put_text.proofs.GraphLines.{field-length, vertex-length, ver
 use Rattle.put_text.proofs.put_vertex.Statement.{statement}
 use Rattle.put_text.proofs.put_vertex.Tie as tie
 
+-- each part from the next
+abbrev at-letters : tie.After-put-field → tie.After-put-bytes
+at-letters c = c .before .before .before .before
+
+abbrev at-number : tie.After-put-initial → tie.After-put-field
+at-number c = c .before .before .before .before
+
 -- the start of the call, seen from behind each part
 abbrev start1 : tie.After-put-bytes → tie.Start
 start1 c = c .before .before .before .before
 
 abbrev start2 : tie.After-put-field → tie.Start
-start2 c = start1 (c .before .before .before .before)
+start2 c = start1 (at-letters c)
 
 abbrev start3 : tie.After-put-initial → tie.Start
-start3 c = start2 (c .before .before .before .before)
+start3 c = start2 (at-number c)
 
 -- where each part ends, and that no byte is lost
 first : (c : tie.After-put-bytes) → (c .put-bytes .result ≡ start1 c .args .at + 2) × (length (c .put-bytes .last .0) ≡ length (start1 c .args .out .now))
@@ -28,12 +35,12 @@ first c = omega (arith, c .put-bytes .ensures .end, c .put-bytes .kept .0)
 
 second : (c : tie.After-put-field)
     → (c .put-field .result ≡ start2 c .args .at + 3 + length (decimal (start2 c .args .vertex))) × (length (c .put-field .last .0) ≡ length (start2 c .args .out .now))
-second c = omega (arith, first (c .before .before .before .before), c .put-field .ensures .end, c .put-field .kept .0, field-length (start2 c .args .vertex))
+second c = omega (arith, first (at-letters c), c .put-field .ensures .end, c .put-field .kept .0, field-length (start2 c .args .vertex))
 
 third : (c : tie.After-put-initial)
     → (c .put-initial .result ≡ start3 c .args .at + 3 + length (decimal (start3 c .args .vertex)) + length (initialText (start3 c .args .initial)))
     × (length (c .put-initial .last .0) ≡ length (start3 c .args .out .now))
-third c = omega (arith, second (c .before .before .before .before), c .put-initial .ensures .end, c .put-initial .kept .0)
+third c = omega (arith, second (at-number c), c .put-initial .ensures .end, c .put-initial .kept .0)
 
 long : (s : tie.Start) → s .args .at + (4 + (length (decimal (s .args .vertex)) + length (initialText (s .args .initial)))) ≤ length (s .args .out .now)
 long s = omega (arith, s .pre .1, vertex-length (s .args .vertex) (s .args .initial))
@@ -53,8 +60,8 @@ put-byte-requires c κs = let d = c .before .before .before in omega (arith, thi
 returns : tie.Need-returns
 returns c =
     let i = c .before .before .before .before .before .before in
-    let f = i .before .before .before .before in
-    let b = f .before .before .before .before in
+    let f = at-number i in
+    let b = at-letters f in
     let room = long (start3 i) in
     let initial = puts-then (omega (arith, room, second f)) (i .put-initial .ensures) (c .before .before .put-byte .ensures) in
     let fields = puts-then (omega (arith, room, first b)) (f .put-field .ensures) initial in

@@ -13,10 +13,17 @@ use Rattle.order_lines.proofs.answers.put_answer.Tie as tie
 abbrev start : tie.After-put-refused-by → tie.Start
 start c = c .before .before .before .before .before .before
 
+-- of a found path's: where its letters were put, seen from behind the total, and where the answer was told, seen from there
+abbrev at-bytes : tie.After-wide → tie.After-put-bytes
+at-bytes c = c .before .before .before .before
+
+abbrev at-answer : tie.After-put-bytes → tie.After-answer
+at-answer p = p .before .before .before .before
+
 put-field-requires : tie.Need-put-field-requires
 put-field-requires c κs =
-    let p = c .before .before .before .before in
-    let s = p .before .before .before .before .before .before .before in
+    let p = at-bytes c in
+    let s = at-answer p .before .before .before in
     omega (arith, s .pre, p .put-bytes .ensures .end, p .put-bytes .kept .0, decimal-length (c .wide .result))
 
 put-bytes-requires-3 : tie.Need-put-bytes-requires-3
@@ -28,8 +35,8 @@ put-bytes-requires-3 c κs =
 returns : tie.Need-returns
 returns c =
     let w = c .before .before .before in
-    let p = w .before .before .before .before in
-    let told = p .before .before .before .before in
+    let p = at-bytes w in
+    let told = at-answer p in
     rw (told .answer .given .1, sym (w .wide .ensures))
     (puts-then (omega (arith, told .before .before .before .pre)) (p .put-bytes .ensures) (c .before .before .put-field .ensures))
 

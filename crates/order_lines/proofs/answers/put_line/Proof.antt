@@ -11,40 +11,53 @@ use Rattle.order_lines.proofs.Words.{field-end, answer-length, path-len
 use Rattle.order_lines.proofs.answers.put_line.Statement.{statement}
 use Rattle.order_lines.proofs.answers.put_line.Tie as tie
 
+-- each field from the next
+abbrev at-order : tie.After-put-answer → tie.After-put-field
+at-order c = c .before .before .before .before
+
+abbrev at-answer : tie.After-put-field2 → tie.After-put-answer
+at-answer c = c .before .before .before .before
+
+abbrev at-waits : tie.After-put-field3 → tie.After-put-field2
+at-waits c = c .before .before .before .before
+
+abbrev at-tickets : tie.After-put-run → tie.After-put-field3
+at-tickets c = c .before .before .before .before
+
 -- the start of the call, seen from behind each field
 abbrev start1 : tie.After-put-field → tie.Start
 start1 c = c .before .before .before .before
 
 abbrev start2 : tie.After-put-answer → tie.Start
-start2 c = start1 (c .before .before .before .before)
+start2 c = start1 (at-order c)
 
 abbrev start3 : tie.After-put-field2 → tie.Start
-start3 c = start2 (c .before .before .before .before)
+start3 c = start2 (at-answer c)
 
 abbrev start4 : tie.After-put-field3 → tie.Start
-start4 c = start3 (c .before .before .before .before)
+start4 c = start3 (at-waits c)
 
 abbrev start5 : tie.After-put-run → tie.Start
-start5 c = start4 (c .before .before .before .before)
+start5 c = start4 (at-tickets c)
 
 -- how far each field reaches, and that no byte is lost
 first : (c : tie.After-put-field) → (c .put-field .result ≤ 11) × (length (c .put-field .last .0) ≡ length (start1 c .args .out .now))
 first c = omega (arith, field-end _ (c .put-field .ensures), c .put-field .kept .0)
 
 second : (c : tie.After-put-answer) → (c .put-answer .result ≤ 32) × (length (c .put-answer .last .0) ≡ length (start2 c .args .out .now))
-second c = omega (arith, c .put-answer .ensures .end, c .put-answer .kept .0, answer-length (start2 c .args .line .answer), first (c .before .before .before .before))
+second c = omega (arith, c .put-answer .ensures .end, c .put-answer .kept .0, answer-length (start2 c .args .line .answer), first (at-order c))
 
 third : (c : tie.After-put-field2) → (c .put-field2 .result ≤ 43) × (length (c .put-field2 .last .0) ≡ length (start3 c .args .out .now))
-third c = omega (arith, field-end _ (c .put-field2 .ensures), c .put-field2 .kept .0, second (c .before .before .before .before))
+third c = omega (arith, field-end _ (c .put-field2 .ensures), c .put-field2 .kept .0, second (at-answer c))
 
 fourth : (c : tie.After-put-field3) → (c .put-field3 .result ≤ 54) × (length (c .put-field3 .last .0) ≡ length (start4 c .args .out .now))
-fourth c = omega (arith, field-end _ (c .put-field3 .ensures), c .put-field3 .kept .0, third (c .before .before .before .before))
+fourth c = omega (arith, field-end _ (c .put-field3 .ensures), c .put-field3 .kept .0, third (at-waits c))
 
 fifth : (c : tie.After-put-run)
     → (c .put-run .result ≤ 55 + 11 * length (start5 c .args .path .now)) × (length (c .put-run .last .0) ≡ length (start5 c .args .out .now))
 fifth c =
     let s = start5 c .args in
-    omega (arith, c .put-run .ensures .end, c .put-run .kept .0, path-length (s .line .answer) (s .path .now), fourth (c .before .before .before .before))
+    omega (arith, c .put-run .ensures .end, c .put-run .kept .0, path-length (s .line .answer) (s .path .now), fourth (at-tickets c))
 
 put-field-requires : tie.Need-put-field-requires
 put-field-requires c κs = let s = c .before .before .before in omega (arith, s .pre, decimal-length (s .args .line .order))
@@ -67,10 +80,10 @@ put-byte-requires c κs = let d = c .before .before .before in omega (arith, fif
 returns : tie.Need-returns
 returns c =
     let e = c .before .before .before .before .before .before in
-    let d = e .before .before .before .before in
-    let t = d .before .before .before .before in
-    let b = t .before .before .before .before in
-    let a = b .before .before .before .before in
+    let d = at-tickets e in
+    let t = at-waits d in
+    let b = at-answer t in
+    let a = at-order b in
     let room = start1 a .pre .room in
     let run = puts-then (omega (arith, room, fourth d)) (e .put-run .ensures) (c .before .before .put-byte .ensures) in
     let tickets = puts-then (omega (arith, room, third t)) (d .put-field3 .ensures) run in

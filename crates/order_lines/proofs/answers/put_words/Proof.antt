@@ -22,17 +22,20 @@ loop-holds c =
     let a = c .before .before .args in
     (omega arith, refl, words-start (a .out .now) (a .at) (a .words .now))
 
+abbrev at-start : tie.In-loop Inv-loop μ-loop → tie.Start Inv-loop μ-loop
+at-start t = t .before .before .before .before
+
 put-spaced-requires : tie.Need-put-spaced-requires Inv-loop μ-loop
 put-spaced-requires c κs =
     let t = c .before .before in
     let at = t .before .loop in
-    omega (arith, at .inv .1, words-room _ _ _ _ _ _ (t .loop-test .taken) (at .inv .2) (t .before .before .before .before .pre))
+    omega (arith, at .inv .1, words-room _ _ _ _ _ _ (t .loop-test .taken) (at .inv .2) (at-start t .pre))
 
 loop-again : tie.Need-loop-again Inv-loop μ-loop
 loop-again c =
     let t = c .before .before .before .before .before in
     let at = t .before .loop in
-    let room = t .before .before .before .before .pre in
+    let room = at-start t .pre in
     let p = c .before .before .put-spaced in
     (omega arith, p .kept .0 ∙ at .inv .1, words-next _ _ _ _ (omega (arith, room)) (t .loop-test .taken) (at .inv .2) (p .ensures))
 

@@ -15,9 +15,11 @@ Inv-loop field b list₀ at₀ list at = Reading b field list at
 abbrev μ-loop : tie.MeasureT-loop
 μ-loop field b list₀ at₀ list at = length field + 1 - at
 
-within : (c : tie.After-find Inv-loop μ-loop)
-    → c .before .before .before .loop .at + c .find .result ≤ length (c .before .before .before .before .before .before .before .args .field .now)
-within c = reading-within (c .before .before .before .loop .inv) (c .before .before .loop-test .taken) (c .find .ensures)
+abbrev at-loop : tie.After-find Inv-loop μ-loop → tie.At-loop Inv-loop μ-loop
+at-loop c = c .before .before .before
+
+within : (c : tie.After-find Inv-loop μ-loop) → at-loop c .loop .at + c .find .result ≤ length (at-loop c .before .before .before .before .args .field .now)
+within c = reading-within (at-loop c .loop .inv) (c .before .before .loop-test .taken) (c .find .ensures)
 
 abbrev at-find : tie.After-with Inv-loop μ-loop → tie.After-find Inv-loop μ-loop
 at-find c = c .before .before .before .before .before .before
