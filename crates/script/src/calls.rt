@@ -4,6 +4,8 @@ use crate::sum::sum;
 use model::InitializeAnswer;
 use model::RetraceAnswer;
 use model::Search;
+use model::SearchStatus;
+use model::StepAnswer;
 use order_lines::orders::Numbers;
 use script_lines::fields::Call;
 use script_lines::fields::read_numbers;
@@ -15,6 +17,7 @@ use script_lines::print::print_opened_cache;
 use script_lines::print::print_opened_search;
 use script_lines::print::print_refusal;
 use script_lines::print::print_stepped;
+use script_lines::print::print_steps;
 use script_lines::print::print_words;
 use text::bytes::capped;
 use text::bytes::least;
@@ -178,6 +181,8 @@ pub fn on_search(
         Name::Open => open(line, f, record, words),
         Name::Step => step(f, record, words),
         Name::Lent => step_lent(f, record, words),
+        Name::Solve => solve(f, record, words),
+        Name::Plan => plan(line, f, record, words, run),
         _ => {
             retrace(f, record, words, run);
             record
@@ -237,6 +242,91 @@ fn step_lent(f: Fields, record: Search, words: &mut [u32]) -> Search {
     print_stepped(stepped);
     let search = stepped.search;
     search
+}
+
+fn solve(f: Fields, record: Search, words: &mut [u32]) -> Search {
+    let steps = f.values[2];
+    if f.count == 3 {
+        if steps <= MAX_NUMBER {
+            let taken = planner::solve(words, record, capped(steps));
+            let answer = taken.answer;
+            print_steps(answer, taken.waits, taken.tickets, b"", &words[0..0]);
+            let search = taken.search;
+            return search;
+        }
+    }
+    print_no_form();
+    record
+}
+
+fn plan(
+    line: &[u8],
+    f: Fields,
+    record: Search,
+    words: &mut [u32],
+    run: &mut [u32; 4096],
+) -> Search {
+    let lent = f.values[2];
+    let starts = read_numbers(line, 4);
+    let goals = read_numbers(line, 5);
+    if f.count == 5 {
+        if lent <= RUN {
+            if starts.legal {
+                if goals.legal {
+                    *run = [UNTOUCHED; RUN];
+                    return plan_lent(starts, goals, record, words, run, lent);
+                }
+            }
+        }
+    }
+    print_no_form();
+    record
+}
+
+// The record is the planned search's, unless it is refused.
+fn plan_lent(
+    starts: Numbers,
+    goals: Numbers,
+    record: Search,
+    words: &mut [u32],
+    run: &mut [u32],
+    lent: usize,
+) -> Search {
+    let from = starts.numbers;
+    let from_all = &from[..];
+    let m = least(starts.count, from_all.len());
+    let to = goals.numbers;
+    let to_all = &to[..];
+    let n = least(goals.count, to_all.len());
+    let end = least(lent, run.len());
+    let planned = planner::plan(words, &from_all[0..m], &to_all[0..n], &mut run[0..end]);
+    let answer = planned.answer;
+    let moves = moves_of(answer);
+    if planned.has_path {
+        let shown = least(1 + 2 * least(moves, MAX_MOVES), run.len());
+        print_steps(answer, planned.waits, planned.tickets, b"", &run[0..shown]);
+    } else {
+        print_steps(answer, planned.waits, planned.tickets, b" -", &run[0..0]);
+    }
+    let StepAnswer::Status(_) = answer else {
+        return record;
+    };
+    let search = planned.search;
+    search
+}
+
+fn moves_of(answer: StepAnswer) -> usize {
+    let StepAnswer::Status(status) = answer else {
+        return 0;
+    };
+    let SearchStatus::Solved {
+        total_cost: _,
+        moves,
+    } = status
+    else {
+        return 0;
+    };
+    moves
 }
 
 fn retrace(f: Fields, record: Search, words: &[u32], run: &mut [u32; 4096]) {

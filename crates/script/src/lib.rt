@@ -165,7 +165,7 @@ fn on_side(
 
 fn is_search(name: Name) -> bool {
     match name {
-        Name::Open | Name::Step | Name::Lent | Name::Retrace => true,
+        Name::Open | Name::Step | Name::Lent | Name::Solve | Name::Plan | Name::Retrace => true,
         _ => false,
     }
 }

@@ -12,6 +12,8 @@ pub enum Name {
     Open,
     Step,
     Lent,
+    Solve,
+    Plan,
     Retrace,
     Record,
     Copy,
@@ -75,6 +77,12 @@ fn search_name(name: &[u8]) -> Name {
     }
     if is(name, b"lent") {
         return Name::Lent;
+    }
+    if is(name, b"solve") {
+        return Name::Solve;
+    }
+    if is(name, b"plan") {
+        return Name::Plan;
     }
     if is(name, b"retrace") {
         return Name::Retrace;

@@ -87,7 +87,8 @@ pub fn print_stepped(stepped: Stepped) {
     let answer = stepped.answer;
     match answer {
         StepAnswer::Status(status) => {
-            print_status(status, stepped.tickets);
+            print_status(status);
+            print_named(b"", stepped.tickets);
         }
         StepAnswer::Refused { refusal, line: _ } => {
             print_refusal(refusal);
@@ -95,7 +96,24 @@ pub fn print_stepped(stepped: Stepped) {
     }
 }
 
-fn print_status(status: SearchStatus, tickets: usize) {
+// The answer of some steps, how many waited, the tickets of all, and a mark and words behind them.
+pub fn print_steps(answer: StepAnswer, waits: usize, tickets: usize, mark: &[u8], words: &[u32]) {
+    match answer {
+        StepAnswer::Status(status) => {
+            print_status(status);
+            print(b" ");
+            print_number(waits);
+            print(b" ");
+            print_number(tickets);
+            print_words(mark, words);
+        }
+        StepAnswer::Refused { refusal, line: _ } => {
+            print_refusal(refusal);
+        }
+    }
+}
+
+fn print_status(status: SearchStatus) {
     match status {
         SearchStatus::Incomplete => {
             print(b"waiting");
@@ -110,7 +128,6 @@ fn print_status(status: SearchStatus, tickets: usize) {
             print(b"none");
         }
     }
-    print_named(b"", tickets);
 }
 
 // At most the first 64 of each list.
