@@ -6,7 +6,7 @@ use mathlib.Core.List.{List, List·Memᴰ}
 use mathlib.Core.Option.{none}
 use Prim.Native.Nat.{ℕ, zero, suc, _+_, _*_, _≤_}
 use native.Mathlib.Omega.{arith}
-use borrow.Author.Tests.{ltb-true, ltb-false, le-leb, lt-leb}
+use borrow.Author.Tests.{ltb-true, ltb-false, le-ltb, le-leb, lt-leb}
 use lib.Dec.{leb, ltb}
 use lib.ListN.{length}
 use Rattle.model.specs.declared.BestSolution.{BestSolution}
@@ -20,7 +20,7 @@ use Rattle.model.specs.declared.SearchOpened.{SearchOpened}
 use Rattle.model.specs.declared.Solution.{Solution}
 use Rattle.model.specs.declared.Solution.the-variants.{Unsolved, At}
 use Rattle.model.specs.declared.StepsTaken.{StepsTaken}
-use Rattle.model.specs.Answers.{answered, refused, isAnswered, number, Status, waiting, solved, noPath, stepReply, retraceReply}
+use Rattle.model.specs.Answers.{answered, isAnswered, number, Status, solved, noPath, stepReply, retraceReply}
 use Rattle.model.specs.Graph.{Accepted, Domain, Direction}
 use Rattle.model.specs.Tree.{Tree}
 use Rattle.model.specs.Search.{walk}
@@ -30,20 +30,18 @@ use Rattle.model.specs.Solve.{isWaiting, lastReply, AfterSteps, stepsFrom, solv
 use Rattle.model.proofs.Replies.{answered-refused, answered-is}
 use Rattle.model.proofs.Faults.{step-if, shownAs, retraceAs, retrace-as}
 use Rattle.model.proofs.Turns.{unsolved-at}
-use Rattle.model.proofs.Solve.{more, steps-wait, steps-end, solve-some}
+use Rattle.model.proofs.Solve.{steps-wait, steps-end, solve-some}
 use Rattle.model.proofs.Valid.{valid-at, own-valid}
 use Rattle.model.proofs.Chain.{State, lefts, state-walk, walk-less}
 use Rattle.layout.specs.Read.{readCache}
-use Rattle.layout.specs.Sound.{soundWordsb}
 use Rattle.sound.proofs.Facts.{sound-accepted, sound-words-at}
-use Rattle.unchecked.specs.Initialize.{Initializes}
-use Rattle.unchecked.specs.Run.{ticketLimit, JustOpened}
+use Rattle.unchecked.specs.Run.{JustOpened}
 use Rattle.unchecked.proofs.JustOpened.{OwnSearch, own-search}
-use Rattle.dijkstra.specs.Calls.{Initializing, retraceWords, Retracing, afterRetrace}
+use Rattle.dijkstra.specs.Calls.{Initializing, Retracing}
 use Rattle.dijkstra.proofs.Demand1 as calls
 use Rattle.dijkstra.proofs.Initialized as opening
 use Rattle.planner.specs.Solve.{Solving}
-use Rattle.planner.specs.Plan.{not-opened, to-the-end, CallsMade, Ends, HasPath}
+use Rattle.planner.specs.Plan.{not-opened, to-the-end, CallsMade, Ends, HasPath, RetracesLater}
 use Rattle.planner.proofs.Planned.{end, end-is, path-is, accepted-sound}
 
 -- ---- a final answer
@@ -176,19 +174,37 @@ module _ (p : List ℕ) where
     unfolding finalStatus
     not-shown e = no-path-by (s .«best_solution») refl e
 
+    -- one that shows a node is refused by 10 alone
+    shows-node : (n : ℕ) → shown s ≡ At n → retrace c s p ≡ retraceAs true true (c .domain .direction) t (At n) p
+    shows-node n z =
+        let best : solvedAlready s ≡ true = ap₂ (λ (x y : Bool). x && y) done (best-shown s n (s .«best_solution») z) in
+        retrace-as c s p
+        ∙ ap₂ (λ (v x : Bool). retraceAs v x (c .domain .direction) t (shown s) p) fine best
+        ∙ ap (λ (o : Solution). retraceAs true true (c .domain .direction) t o p) z
+
     path-by : (k m : ℕ) (o : Solution) → shown s ≡ o → statusAt t o ≡ solved k m → isAnswered (retrace c s p .reply) ≡ leb (1 + 2 * m) (length p)
     path-by k m Unsolved z e = absurd (no-path k m e)
     path-by k m (At n) z e =
         let same : movesAt t (At n) ≡ m = cc in
-        let best : solvedAlready s ≡ true = ap₂ (λ (x y : Bool). x && y) done (best-shown s n (s .«best_solution») z) in
-        ap (λ (r : AfterRetrace). isAnswered (r .reply))
-        (retrace-as c s p ∙ ap₂ (λ (v x : Bool). retraceAs v x (c .domain .direction) t (shown s) p) fine best ∙ ap (λ (o : Solution). retraceAs true true (c .domain .direction) t o p) z)
+        ap (λ (r : AfterRetrace). isAnswered (r .reply)) (shows-node n z)
         ∙ has-room (movesAt t (At n)) _ refl (c .domain .direction) t (At n)
         ∙ ap (λ (j : ℕ). leb (1 + 2 * j) (length p)) same
+
+    moves-by : (k m : ℕ) (o : Solution) → shown s ≡ o → statusAt t o ≡ solved k m → 1 + 2 * m ≤ length p → retrace c s p .reply ≡ answered m
+    moves-by k m Unsolved z e h = absurd (no-path k m e)
+    moves-by k m (At n) z e h =
+        let same : movesAt t (At n) ≡ m = cc in
+        let fits : ltb (length p) (1 + 2 * movesAt t (At n)) ≡ false = le-ltb (length p) _ (subst (λ (j : ℕ). 1 + 2 * j ≤ length p) (sym same) h) in
+        ap (λ (r : AfterRetrace). r .reply) (shows-node n z ∙ ap (λ (b : Bool). shownAs (orElse b 10 none) (c .domain .direction) t (At n) p) fits)
+        ∙ ap answered same
 
     path-written : (k m : ℕ) → finalStatus (c .trees) s ≡ solved k m → isAnswered (retrace c s p .reply) ≡ leb (1 + 2 * m) (length p)
     unfolding finalStatus
     path-written k m e = path-by k m (shown s) refl e
+
+    moves-told : (k m : ℕ) → finalStatus (c .trees) s ≡ solved k m → 1 + 2 * m ≤ length p → retrace c s p .reply ≡ answered m
+    unfolding finalStatus
+    moves-told k m e = moves-by k m (shown s) refl e
 
 -- a refused retrace leaves the slice
 not-written : (left : List ℕ) (s : Search) (p : List ℕ) (t : RetraceAnswer) (q : List ℕ) → Retracing left s p t q → isAnswered (retraceReply t) ≡ false → q ≡ p
@@ -219,3 +235,17 @@ module _ {ws ss gs p : List ℕ} where
 
 pub has-path : HasPath
 has-path ws ss gs p r left q k = (room (k .called), none-shown (k .called), slice-kept (k .called))
+
+-- ---- a later retrace
+
+called-retraces : {ws ss gs p : List ℕ} {r : Planned} {left q : List ℕ} → CallsMade ws ss gs p r left q → (c m : ℕ) → stepReply (r .answer) ≡ answered (solved c m)
+    → (p′ : List ℕ) (t : RetraceAnswer) (q′ : List ℕ) → Retracing left (r .search) p′ t q′ → 1 + 2 * m ≤ length p′ → retraceReply t ≡ answered m
+called-retraces (not-opened o f line i e) c m told p′ u q′ later fits = absurd (answered-refused (solved c m) (number f) line (sym told))
+called-retraces {ws} {ss} {gs} (to-the-end o e x i a s k) c m told p′ u q′ later fits =
+    let h = end-ended ws ss gs p′ i a s in
+    let y : AfterSteps = end ws ss gs p′ i a s in
+    ap (λ (z : AfterRetrace). z .reply) (later ∙ path-is ws ss gs p′ i a s)
+    ∙ moves-told p′ (y .cache) (y .search) (h .fine) (h .done) c m (answered-is _ _ (sym (end-told ws ss gs p′ i a s) ∙ told)) fits
+
+pub retraces-later : RetracesLater
+retraces-later ws ss gs p r left q k = called-retraces (k .called)

@@ -7,8 +7,7 @@ use mathlib.Core.Option.{Option, none, some, Option·none-ne-some}
 use Prim.Native.Nat.{ℕ}
 use Rattle.model.specs.declared.Planned.{Planned}
 use Rattle.model.specs.declared.Refusal.{Refusal}
-use Rattle.model.specs.declared.StepAnswer.the-variants as stepping
-use Rattle.model.specs.Answers.{answered, refused, number, stepReply}
+use Rattle.model.specs.Answers.{refused, number, stepReply}
 use Rattle.model.specs.Search.{emptySearch}
 use Rattle.model.specs.Calls.{Cache, Fault, orElse, firstFault, initializeFaults, initializeBy, initialize}
 use Rattle.model.proofs.Replies.{refusalOf, refusal-is, answered-refused}

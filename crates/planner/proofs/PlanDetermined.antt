@@ -1,8 +1,7 @@
 -- What two calls of `plan` from the same words, lists and slice answer and leave is the same, but for the arrangement of the queue words of the
 -- trees that the search opened.
 -- Assumes nothing.
-use mathlib.Core.Path.{_≡_, refl, sym, ap, _∙_, subst}
-use mathlib.Core.Bool.{Bool}
+use mathlib.Core.Path.{_≡_, sym, ap, _∙_, subst}
 use mathlib.Core.List.{List}
 use Prim.Native.Nat.{ℕ}
 use lib.ListN.{length, getD}

@@ -21,11 +21,8 @@ use Rattle.model.specs.Plan.{AfterPlan, planFrom}
 use Rattle.model.proofs.Replies.{answered-refused}
 use Rattle.layout.specs.Read.{readCache}
 use Rattle.layout.specs.Sound.{soundWordsb}
-use Rattle.sound.specs.Facts.{SoundWords}
-use Rattle.unchecked.specs.declared.shown.Shown.{Shown}
 use Rattle.unchecked.specs.declared.shown.Shown.the-variants as shown
 use Rattle.unchecked.specs.declared.SearchRun.{SearchRun}
-use Rattle.unchecked.specs.Initialize.{notOpened}
 use Rattle.unchecked.specs.Shown.{Shows}
 use Rattle.unchecked.specs.Retrace.{retraceShown, RetracesShown}
 use Rattle.unchecked.specs.Run.{stepsOf, RunsToEnd, RunsAfter, Runs}
@@ -34,7 +31,7 @@ use Rattle.dijkstra.proofs.Histories.{retrace-is}
 use Rattle.dijkstra.proofs.Initialized as opening
 use Rattle.dijkstra.proofs.Retraced as retracing
 use Rattle.planner.specs.Solve.{solveIf, solveWords, Solving}
-use Rattle.planner.specs.Plan.{planIf, planWords, CallsMade, not-opened, to-the-end, Planning, notPlanned, CallsPlan}
+use Rattle.planner.specs.Plan.{planIf, planWords, not-opened, to-the-end, Planning, notPlanned, CallsPlan}
 use Rattle.planner.proofs.Solved.{on-sound}
 
 -- ---- refusal 7 is the opening's

@@ -4,7 +4,7 @@
 use mathlib.Core.Path.{_≡_}
 use mathlib.Core.Bool.{Bool, true, false}
 use mathlib.Core.List.{List}
-use Prim.Native.Nat.{ℕ, _+_, _*_}
+use Prim.Native.Nat.{ℕ, _+_, _*_, _≤_}
 use lib.Dec.{leb}
 use lib.ListN.{length}
 use Rattle.model.specs.declared.InitializeAnswer.the-variants as initializing
@@ -110,6 +110,13 @@ abbrev pub Retraced : Type 0
 Retraced =
     (ws ss gs p : List ℕ) (r : Planned) (left q : List ℕ) → Planning ws ss gs p r left q → isAnswered (stepReply (r .answer)) ≡ true
     → (t : RetraceAnswer) × (Retracing left (r .search) p t q × (r .«has_path» ≡ isAnswered (retraceReply t)))
+
+-- "hands back the record for a `retrace`": of a solved search, one with that record on the words left and a slice that has room answers
+-- the moves
+abbrev pub RetracesLater : Type 0
+RetracesLater =
+    (ws ss gs p : List ℕ) (r : Planned) (left q : List ℕ) → Planning ws ss gs p r left q → (k m : ℕ) → stepReply (r .answer) ≡ answered (solved k m)
+    → (p′ : List ℕ) (t : RetraceAnswer) (q′ : List ℕ) → Retracing left (r .search) p′ t q′ → 1 + 2 * m ≤ length p′ → retraceReply t ≡ answered m
 
 -- "what the three calls one after the other give": they meet it
 abbrev pub CallsPlan : Type 0
