@@ -21,8 +21,12 @@ at-loop c = c .before .before .before
 within : (c : tie.After-find Inv-loop μ-loop) → at-loop c .loop .at + c .find .result ≤ length (at-loop c .before .before .before .before .args .field .now)
 within c = reading-within (at-loop c .loop .inv) (c .before .before .loop-test .taken) (c .find .ensures)
 
-abbrev at-find : tie.After-with Inv-loop μ-loop → tie.After-find Inv-loop μ-loop
-at-find c = c .before .before .before .before .before .before
+-- where the number was read, and where it ends
+abbrev at-read : tie.After-with Inv-loop μ-loop → tie.After-read-number Inv-loop μ-loop
+at-read c = c .before .before .before .before
+
+abbrev found : tie.After-read-number Inv-loop μ-loop → tie.After-find Inv-loop μ-loop
+found r = r .before .before
 
 returns : tie.Need-returns Inv-loop μ-loop
 returns c = c .empty-list .ensures ∙ sym (list-none _ _ (c .before .if1 .taken))
@@ -35,27 +39,25 @@ part-read-number-end c = omega (arith, within c)
 
 returns-2 : tie.Need-returns-2 Inv-loop μ-loop
 returns-2 c =
-    let at = c .before .before .before .before .before in
-    let test = at .before .before in
-    let read = c .before .before .before .read-number .ensures in
-    c .no-numbers .ensures ∙ sym (reading-illegal (test .before .loop .inv) (test .loop-test .taken) (at .find .ensures) read (c .before .enum-told .given .1))
+    let read = c .before .before .before in
+    let at = found read in
+    c .no-numbers .ensures ∙ sym (reading-illegal (at-loop at .loop .inv) (at .before .before .loop-test .taken) (at .find .ensures) (read .read-number .ensures) (c .before .enum-told .given .1))
 
 add-at : tie.Need-add-at Inv-loop μ-loop
-add-at c = omega (arith, within (at-find c))
+add-at c = omega (arith, within (found (at-read c)))
 
 add-at-2 : tie.Need-add-at-2 Inv-loop μ-loop
-add-at-2 c = omega (arith, within (at-find c))
+add-at-2 c = omega (arith, within (found (at-read c)))
 
 loop-less : tie.Need-loop-less Inv-loop μ-loop
-loop-less c = omega (arith, within (at-find c))
+loop-less c = omega (arith, within (found (at-read c)))
 
 loop-again : tie.Need-loop-again Inv-loop μ-loop
 loop-again c =
-    let at = at-find c in
-    let test = at .before .before in
-    let read = c .before .before .before .before .read-number .ensures in
+    let read = at-read c in
+    let at = found read in
     rw (c .with .ensures)
-    (reading-next (test .before .loop .inv) (test .loop-test .taken) (at .find .ensures) read (c .before .before .n .given .1))
+    (reading-next (at-loop at .loop .inv) (at .before .before .loop-test .taken) (at .find .ensures) (read .read-number .ensures) (c .before .before .n .given .1))
 
 returns-3 : tie.Need-returns-3 Inv-loop μ-loop
 returns-3 c = reading-end (c .before .loop .inv) (c .loop-test .left)
