@@ -18,17 +18,17 @@ returns c = let r = c .before in plan-skips (at-start r .pre) (r .before .wide .
 
 returns-2 : tie.Need-returns-2
 returns-2 c =
-    let t = c .before .before .before in
+    let t = c .before .before in
     let r = at-cost (t .before) in
     plan-shares (at-start r .pre) (r .before .wide .ensures) (r .root-cost .ensures) (t .before .before .before .before .if1 .left)
-    (t .before .before .wide2 .ensures) refl (t .if2 .taken) (c .before .wide3 .ensures) (c .with-entry .ensures)
+    (t .before .before .wide2 .ensures) refl (t .if2 .taken) (c .with-entry .ensures)
 
 returns-3 : tie.Need-returns-3
 returns-3 c =
     let t = c .before .before .before .before in
     let r = at-cost (t .before) in
     plan-plants (at-start r .pre) (r .before .wide .ensures) (r .root-cost .ensures) (t .before .before .before .before .if1 .left)
-    (t .before .before .wide2 .ensures) refl (t .if2 .left) (c .before .before .header .ensures) (c .before .wide4 .ensures) (c .with-entry2 .ensures)
+    (t .before .before .wide2 .ensures) refl (t .if2 .left) (c .before .before .header .ensures) (c .before .wide3 .ensures) (c .with-entry2 .ensures)
 
 pub plan-root-spec : {M : Type 1} → statement M
 plan-root-spec =
@@ -41,7 +41,6 @@ plan-root-spec =
     (λ c. search needs)
     (λ c. search needs)
     (λ c. search needs)
-    (λ c κs. search needs)
     (λ c κs. search needs)
     returns-2
     (λ c κs. search needs)
