@@ -47,16 +47,16 @@ pub fn step_trees(words: &mut [u32], search: Search) -> Turned
     ensures { λ r. ⌜ Steps (now (words .entry)) search r (now (words .exit)) ⌝ }
 {
     let keys = search.goal_keys;
-    let count = search.goal_count;
+    let count = search.goal_count as usize;
     let goals = &keys[0..count];
     let mut next = search.with_exhausted(true);
     let mut tickets = 0;
     let mut i = 0;
     while i < search.tree_count {
-        let memory = next.trees[i];
+        let memory = next.trees[i as usize];
         let best = next.best_solution;
         let holder = next.trees[best_entry(best)];
-        let bound = cost_bound(words, best, holder.tree);
+        let bound = cost_bound(words, best, holder.tree as usize);
         let r = turn(words, memory, goals, bound);
         let known = r.known;
         if let KnownLen::Len(len) = known {
@@ -84,7 +84,7 @@ fn best_entry(best: BestSolution) -> usize
 {
     match best {
         BestSolution::NoBest => 0,
-        BestSolution::Best { entry, node: _ } => entry,
+        BestSolution::Best { entry, node: _ } => entry as usize,
     }
 }
 
@@ -105,9 +105,9 @@ fn turn(words: &mut [u32], memory: TreeMemory, goals: &[u32], bound: CostBound) 
     ensures { λ r. ⌜ Turns (now (words .entry)) (memory .tree) (turnOf (now (words .entry)) memory (now (goals .entry)) bound) r (now (words .exit)) ⌝ }
 {
     let known = memory.last_known_closed_len;
-    let find = look_up(words, memory.tree, goals, known);
+    let find = look_up(words, memory.tree as usize, goals, known);
     match find {
-        Solution::Unsolved => grow_tree(words, memory.tree, goals, bound),
+        Solution::Unsolved => grow_tree(words, memory.tree as usize, goals, bound),
         Solution::At(_) => Outcome {
             known: KnownLen::Never,
             find,
@@ -136,7 +136,7 @@ fn look_up_in(words: &[u32], tree: &[u32], edges: usize, goals: &[u32], known: K
     cheapest_goal(words, tree, edges, goals)
 }
 
-fn is_known(known: KnownLen, len: usize) -> bool
+fn is_known(known: KnownLen, len: u32) -> bool
     ensures { λ r. ⌜ r ≡ remembers known len ⌝ }
 {
     match known {
@@ -191,8 +191,8 @@ fn judge(words: &[u32], memory: TreeMemory, find: Solution, bound: CostBound) ->
         return Found::Nothing;
     };
     let held = memory.solution;
-    let cost = solution_cost(words, memory.tree, node);
-    if is_dearer(words, memory.tree, cost, held) {
+    let cost = solution_cost(words, memory.tree as usize, node);
+    if is_dearer(words, memory.tree as usize, cost, held) {
         return Found::Nothing;
     }
     Found::Replaces {

@@ -28,20 +28,20 @@ pub fn is_valid(words: &[u32], search: Search) -> bool
     requires { ⌜ SoundWords (now words) ⌝ }
     ensures { λ r. ⌜ r ≡ valid (readCache (now (words .entry)) .domain) (readCache (now (words .entry)) .trees) search ⌝ }
 {
-    if MAX_ENTRIES < search.tree_count {
+    if MAX_ENTRIES < search.tree_count as usize {
         return false;
     }
-    if MAX_ENTRIES < search.goal_count {
+    if MAX_ENTRIES < search.goal_count as usize {
         return false;
     }
     let keys = search.goal_keys;
-    let count = search.goal_count;
+    let count = search.goal_count as usize;
     let goals = &keys[0..count];
     if !are_vertices(goals, layout::header(words, layout::VERTICES)) {
         return false;
     }
     let mut least = CostBound::Unbounded;
-    let mut i = search.tree_count;
+    let mut i = search.tree_count as usize;
     while 0 < i {
         i -= 1;
         let memory = search.trees[i];
@@ -58,7 +58,7 @@ pub fn is_valid(words: &[u32], search: Search) -> bool
             if search.tree_count <= entry {
                 return false;
             }
-            let memory = search.trees[entry];
+            let memory = search.trees[entry as usize];
             best_is_valid(words, memory, goals, node, least, search.exhausted)
         }
     }
@@ -68,7 +68,7 @@ fn entry_is_valid(words: &[u32], memory: TreeMemory, goals: &[u32]) -> bool
     requires { ⌜ SoundWords (now words) ⌝ }
     ensures { λ r. ⌜ r ≡ allb (entryTests (readCache (now (words .entry)) .domain) (readCache (now (words .entry)) .trees) (now (goals .entry)) memory) ⌝ }
 {
-    if layout::header(words, layout::TREES) <= memory.tree {
+    if layout::header(words, layout::TREES) <= memory.tree as usize {
         return false;
     }
     let known = memory.last_known_closed_len;
@@ -78,7 +78,7 @@ fn entry_is_valid(words: &[u32], memory: TreeMemory, goals: &[u32]) -> bool
     let solution = memory.solution;
     match solution {
         Solution::Unsolved => true,
-        Solution::At(node) => closes_goal(words, memory.tree, goals, node),
+        Solution::At(node) => closes_goal(words, memory.tree as usize, goals, node),
     }
 }
 
@@ -88,7 +88,7 @@ fn is_within(words: &[u32], known: KnownLen) -> bool
 {
     match known {
         KnownLen::Never => true,
-        KnownLen::Len(n) => n <= layout::header(words, layout::VERTICES),
+        KnownLen::Len(n) => n as usize <= layout::header(words, layout::VERTICES),
     }
 }
 
@@ -130,10 +130,10 @@ fn best_is_valid(
     requires { ⌜ InUse (now words) (memory .tree) ⌝ }
     ensures { λ r. ⌜ r ≡ allb (bestNodeTests (readCache (now (words .entry)) .domain) (readCache (now (words .entry)) .trees) (now (goals .entry)) memory node least exhausted) ⌝ }
 {
-    if !closes_goal(words, memory.tree, goals, node) {
+    if !closes_goal(words, memory.tree as usize, goals, node) {
         return false;
     }
-    let cost = solution_cost(words, memory.tree, node);
+    let cost = solution_cost(words, memory.tree as usize, node);
     if !is_same(CostBound::Bound(cost), least) {
         return false;
     }
@@ -160,7 +160,7 @@ fn held_cost(words: &[u32], memory: TreeMemory) -> CostBound
     let solution = memory.solution;
     match solution {
         Solution::Unsolved => CostBound::Unbounded,
-        Solution::At(node) => CostBound::Bound(solution_cost(words, memory.tree, node)),
+        Solution::At(node) => CostBound::Bound(solution_cost(words, memory.tree as usize, node)),
     }
 }
 

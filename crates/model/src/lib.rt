@@ -44,7 +44,7 @@ pub fn number(refusal: Refusal) -> u32
 // The Rust's `Option<usize>` of `last_known_closed_len`.
 pub enum KnownLen {
     Never,
-    Len(usize),
+    Len(u32),
 }
 
 // A tree's solution, as the number of the node that closed a goal. The Rust keeps the whole path.
@@ -56,7 +56,7 @@ pub enum Solution {
 // The best solution: the entry that found it, and its node. The Rust keeps the entry and the cost.
 pub enum BestSolution {
     NoBest,
-    Best { entry: usize, node: u32 },
+    Best { entry: u32, node: u32 },
 }
 
 // The Rust's `Option<Cost>` of `cost_bound`.
@@ -67,17 +67,17 @@ pub enum CostBound {
 
 // One entry of a search: the slot of its tree, and what the search knows of that tree.
 pub struct TreeMemory {
-    pub tree: usize,
+    pub tree: u32,
     pub last_known_closed_len: KnownLen,
     pub solution: Solution,
 }
 
-// The Rust's `Memory`; 01 calls it the search record.
+// The Rust's `Memory`; 01 calls it the search record. Its numbers have 32 bits each, for it goes by value.
 pub struct Search {
     pub trees: [TreeMemory; MAX_ENTRIES],
-    pub tree_count: usize,
+    pub tree_count: u32,
     pub goal_keys: [u32; MAX_ENTRIES],
-    pub goal_count: usize,
+    pub goal_count: u32,
     pub best_solution: BestSolution,
     pub exhausted: bool,
 }
@@ -103,17 +103,17 @@ impl Search {
     }
 
     // One entry more, of the tree in a slot.
-    pub fn with_entry(mut self, tree: usize) -> Search
+    pub fn with_entry(mut self, tree: u32) -> Search
         requires { ⌜ self .«tree_count» < listLimit ⌝ }
         ensures { λ r. ⌜ r ≡ withEntry self tree ⌝ }
     {
-        let i = self.tree_count;
-        self.trees[i] = TreeMemory {
+        let count = self.tree_count;
+        self.trees[count as usize] = TreeMemory {
             tree,
             last_known_closed_len: KnownLen::Never,
             solution: Solution::Unsolved,
         };
-        self.tree_count = i + 1;
+        self.tree_count = count + 1;
         self
     }
 
@@ -122,21 +122,21 @@ impl Search {
         requires { ⌜ self .«goal_count» < listLimit ⌝ }
         ensures { λ r. ⌜ r ≡ withGoal self vertex ⌝ }
     {
-        let i = self.goal_count;
-        self.goal_keys[i] = vertex;
-        self.goal_count = i + 1;
+        let count = self.goal_count;
+        self.goal_keys[count as usize] = vertex;
+        self.goal_count = count + 1;
         self
     }
 
     // A find, which the entry holds from now on, and which may be the best.
-    pub fn with_find(self, entry: usize, node: u32, is_best: bool) -> Search
+    pub fn with_find(self, entry: u32, node: u32, is_best: bool) -> Search
         requires { ⌜ entry < listLimit ⌝ }
         ensures { λ r. ⌜ r ≡ withFind self entry node «is_best» ⌝ }
     {
         let mut trees = self.trees;
-        let memory = trees[entry];
+        let memory = trees[entry as usize];
         let last_known_closed_len = memory.last_known_closed_len;
-        trees[entry] = TreeMemory {
+        trees[entry as usize] = TreeMemory {
             tree: memory.tree,
             last_known_closed_len,
             solution: Solution::At(node),
@@ -155,13 +155,13 @@ impl Search {
     }
 
     // A closed count remembered by an entry.
-    pub fn with_known_len(mut self, entry: usize, len: usize) -> Search
+    pub fn with_known_len(mut self, entry: u32, len: u32) -> Search
         requires { ⌜ entry < listLimit ⌝ }
         ensures { λ r. ⌜ r ≡ withKnownLen self entry len ⌝ }
     {
-        let memory = self.trees[entry];
+        let memory = self.trees[entry as usize];
         let solution = memory.solution;
-        self.trees[entry] = TreeMemory {
+        self.trees[entry as usize] = TreeMemory {
             tree: memory.tree,
             last_known_closed_len: KnownLen::Len(len),
             solution,
@@ -179,7 +179,7 @@ impl Search {
 }
 
 // The best after a find.
-fn best_after(best: BestSolution, entry: usize, node: u32, is_best: bool) -> BestSolution
+fn best_after(best: BestSolution, entry: u32, node: u32, is_best: bool) -> BestSolution
     ensures { λ r. ⌜ r ≡ bestIf «is_best» best entry node ⌝ }
 {
     if is_best {

@@ -34,8 +34,8 @@ module _ {ws table : List ℕ} {p : Planned} {v : ℕ} (h : CanPlanRoot ws table
     by-slot : {n : ℕ} → s ≡ n → planIf (eqb (initialCost (readCache ws .domain) v) absent) (getD table v 0) (treesIn ws) v g ≡ planIf false n (treesIn ws) v g
     by-slot e = ap₂ (λ (b : Bool) (n : ℕ). planIf b n (treesIn ws) v g) (ne-eqb (initialCost (readCache ws .domain) v) absent (λ z. some (cost ∙ z))) (slot ∙ e)
 
-    pub plan-shares : (s ≡ 0 → ⊥) → {n : ℕ} → n ≡ s - 1 → {q : Search} → q ≡ withEntry (p .search) n → PlansRoot ws table p v (record { search = q; starts = p .starts; count = p .count }) table
-    plan-shares nz {n} en e = (λ i. record { plan = record { search = e i; starts = p .starts; count = p .count }; table = table }) ∙ sym (by-slot {n = suc n} (omega (arith, nz, en)))
+    pub plan-shares : (s ≡ 0 → ⊥) → {q : Search} → q ≡ withEntry (p .search) (s - 1) → PlansRoot ws table p v (record { search = q; starts = p .starts; count = p .count }) table
+    plan-shares nz e = (λ i. record { plan = record { search = e i; starts = p .starts; count = p .count }; table = table }) ∙ sym (by-slot {n = suc (s - 1)} (omega (arith, nz)))
 
     pub plan-plants : s ≡ 0 → {u y : ℕ} → u ≡ treesIn ws → y ≡ v → {q : Search} → q ≡ withEntry (p .search) (u + p .count)
         → PlansRoot ws table p v (record { search = q; starts = set (p .starts) (p .count) v; count = p .count + 1 }) (set table y (u + p .count + 1))

@@ -69,16 +69,16 @@ fn plan_root(words: &[u32], table: &mut [u32], plan: Planned, vertex: u32) -> Pl
     if slot != 0 {
         let starts = plan.starts;
         return Planned {
-            search: search.with_entry(wide(slot - 1)),
+            search: search.with_entry(slot - 1),
             starts,
             count: plan.count,
         };
     }
     let mut starts = plan.starts;
     let count = plan.count;
-    let next = layout::header(words, layout::TREES) + count;
+    let next = (layout::header(words, layout::TREES) + count) as u32;
     starts[count] = vertex;
-    table[wide(vertex)] = next as u32 + 1;
+    table[wide(vertex)] = next + 1;
     Planned {
         search: search.with_entry(next),
         starts,

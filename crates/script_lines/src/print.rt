@@ -152,7 +152,7 @@ fn print_entries(record: Search) {
     }
     let mut i = 0;
     while i < MAX_ENTRIES {
-        if record.tree_count <= i {
+        if record.tree_count as usize <= i {
             return;
         }
         print_entry(record, i);
@@ -165,7 +165,7 @@ fn print_entry(record: Search, i: usize)
 {
     print_comma(i);
     let memory = record.trees[i];
-    print_number(memory.tree);
+    print_word(memory.tree);
     print(b":");
     let known = memory.last_known_closed_len;
     print_known(known);
@@ -187,7 +187,7 @@ fn print_known(known: KnownLen) {
             print(b"-");
         }
         KnownLen::Len(n) => {
-            print_number(n);
+            print_word(n);
         }
     }
 }
@@ -209,7 +209,7 @@ fn print_goals(record: Search) {
     }
     let mut i = 0;
     while i < MAX_ENTRIES {
-        if record.goal_count <= i {
+        if record.goal_count as usize <= i {
             return;
         }
         print_comma(i);
@@ -224,7 +224,7 @@ fn print_best(best: BestSolution) {
             print(b"-");
         }
         BestSolution::Best { entry, node } => {
-            print_number(entry);
+            print_word(entry);
             print(b":");
             print_word(node);
         }

@@ -3,7 +3,6 @@ use crate::names::Name;
 use crate::print::print;
 use crate::print::print_no_form;
 use crate::print::print_record;
-use layout::wide;
 use model::BestSolution;
 use model::KnownLen;
 use model::Search;
@@ -76,7 +75,7 @@ fn is_entry(f: Fields) -> bool {
 
 fn entry(slot: usize, count: usize, node: usize) -> TreeMemory {
     TreeMemory {
-        tree: wide(capped(slot)),
+        tree: capped(slot),
         last_known_closed_len: known(count),
         solution: solution(node),
     }
@@ -86,7 +85,7 @@ fn known(count: usize) -> KnownLen {
     if count == HYPHEN {
         return KnownLen::Never;
     }
-    KnownLen::Len(wide(capped(count)))
+    KnownLen::Len(capped(count))
 }
 
 fn solution(node: usize) -> Solution {
@@ -129,7 +128,7 @@ fn set_best(f: Fields, record: Search) -> Search {
 
 fn best(entry: usize, node: usize) -> BestSolution {
     BestSolution::Best {
-        entry: wide(capped(entry)),
+        entry: capped(entry),
         node: capped(node),
     }
 }
@@ -160,7 +159,7 @@ fn set_entries(n: usize, record: Search) -> Search {
         return passed_over(record);
     }
     let mut next = record;
-    next.tree_count = wide(capped(n));
+    next.tree_count = capped(n);
     set(next)
 }
 
@@ -169,7 +168,7 @@ fn set_goals(n: usize, record: Search) -> Search {
         return passed_over(record);
     }
     let mut next = record;
-    next.goal_count = wide(capped(n));
+    next.goal_count = capped(n);
     set(next)
 }
 

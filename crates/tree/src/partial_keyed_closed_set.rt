@@ -47,7 +47,7 @@ pub fn status(tree: &[u32], edges: usize, vertex: usize) -> ClosedStatus
 
 // How many vertices are closed, counted from the closed words: those that are not open. The count is a word and counts the words
 // that are 0, so that the compiler counts four at a time and in the fewest instructions.
-pub fn closed_keys_len(tree: &[u32], edges: usize) -> usize
+pub fn closed_keys_len(tree: &[u32], edges: usize) -> u32
     requires { ⌜ Formed edges (now tree) ⌝ }
     ensures { λ r. ⌜ r ≡ closedCount (treeOf edges (now (tree .entry)) .closed) ⌝ }
 {
@@ -60,7 +60,7 @@ pub fn closed_keys_len(tree: &[u32], edges: usize) -> usize
         }
         place += 1;
     }
-    tree.len() - start - wide(unclosed)
+    (tree.len() - start) as u32 - unclosed
 }
 
 // The cheapest closed goal, the first in the list on ties, as the node that closed it. `words` are those of the tree's cache.

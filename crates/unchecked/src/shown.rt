@@ -32,13 +32,13 @@ pub fn shown_of(search: Search) -> Shown
     let BestSolution::Best { entry, node: _ } = best else {
         return Shown::Nothing;
     };
-    let memory = search.trees[entry];
+    let memory = search.trees[entry as usize];
     let solution = memory.solution;
     let Solution::At(node) = solution else {
         return Shown::Nothing;
     };
     Shown::Node {
-        slot: memory.tree,
+        slot: memory.tree as usize,
         node,
     }
 }

@@ -29,7 +29,7 @@ abbrev at-test : tie.After-best-entry Inv-loop μ-loop → tie.Then1 Inv-loop μ
 at-test c = c .before .before
 
 abbrev at-best : tie.After-turn Inv-loop μ-loop → tie.After-best-entry Inv-loop μ-loop
-at-best c = c .before .before .before .before .before
+at-best c = c .before .before .before .before .before .before
 
 abbrev at-turn : tie.Joined2 Inv-loop μ-loop → tie.After-turn Inv-loop μ-loop
 at-turn c = c .before .before .before .before
@@ -42,7 +42,7 @@ has : (c : tie.Then1 Inv-loop μ-loop) → HasEntry (at-loop c .loop .words) (at
 has c = has-entry (at-loop c .loop .inv) (c .if1 .taken)
 
 loop-holds : tie.Need-loop-holds Inv-loop μ-loop
-loop-holds c = walked-none (c .before .before .before .before .before .pre) (c .with-exhausted .ensures)
+loop-holds c = walked-none (c .before .before .before .before .before .before .pre) (c .with-exhausted .ensures)
 
 mul-holder : tie.Need-mul-holder Inv-loop μ-loop
 mul-holder c = search (needs, best-place (has (at-test c)) (c .best-entry .ensures))
@@ -51,11 +51,11 @@ element-copy-out-holder : tie.Need-element-copy-out-holder Inv-loop μ-loop
 element-copy-out-holder c = best-place (has (at-test c)) (c .best-entry .ensures)
 
 cost-bound-requires : tie.Need-cost-bound-requires Inv-loop μ-loop
-cost-bound-requires c κs = let e = c .before .before in can-bound (has (at-test e)) (e .best-entry .ensures)
+cost-bound-requires c κs = let e = c .before .before .before in can-bound (has (at-test e)) (e .best-entry .ensures)
 
 turn-requires : tie.Need-turn-requires Inv-loop μ-loop
 turn-requires c κs =
-    let t = at-test (c .before .before .before .before) in
+    let t = at-test (c .before .before .before .before .before) in
     can-turn (has t) (goals-lent (at-loop t .loop .inv) (t .if1 .taken))
 
 with-known-len-requires : tie.Need-with-known-len-requires Inv-loop μ-loop
@@ -134,13 +134,16 @@ step-trees-spec =
     (λ c. search needs)
     (λ c. search needs)
     (λ c. search needs)
+    (λ c. search needs)
     (λ c κs. search needs)
     loop-holds
+    (λ c. search needs)
     (λ c. search needs)
     (λ c. search needs)
     (λ c κs. search needs)
     mul-holder
     element-copy-out-holder
+    (λ c. search needs)
     cost-bound-requires
     turn-requires
     (λ c. search needs)

@@ -6,14 +6,14 @@ use Rattle.entry_turns.proofs.turn.Statement.{statement}
 use Rattle.entry_turns.proofs.turn.Tie as tie
 
 abbrev at-start : tie.After-look-up → tie.Start
-at-start c = c .before .before .before .before
+at-start c = c .before .before .before .before .before
 
 returns : tie.Need-returns
 returns c =
     let g = c .before .before in
-    let l = g .before .before .before .before in
+    let l = g .before .before .before .before .before in
     let a = at-start l in
-    turns-grown (a .args .memory) (a .pre) (a .args .bound) (l .look-up .ensures) (g .before .before .enum-told .given .1) (g .grow-tree .ensures)
+    turns-grown (a .args .memory) (a .pre) (a .args .bound) (l .look-up .ensures) (g .before .before .before .enum-told .given .1) (g .grow-tree .ensures)
 
 returns-2 : tie.Need-returns-2
 returns-2 c =
@@ -25,7 +25,9 @@ pub turn-spec : {M : Type 1} → statement M
 turn-spec =
     tie.close
     (tie.spec
+    (λ c. search needs)
     (λ c κs. search needs)
+    (λ c. search needs)
     (λ c. search needs)
     (λ c κs. search needs)
     (λ c. search needs)

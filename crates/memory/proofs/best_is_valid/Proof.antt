@@ -24,8 +24,10 @@ pub best-is-valid-spec : {M : Type 1} → statement M
 best-is-valid-spec =
     tie.close
     (tie.spec
+    (λ c. search needs)
     (λ c κs. search needs)
     returns
+    (λ c. search needs)
     solution-cost-requires
     (λ c κs. search needs)
     returns-2

@@ -36,7 +36,7 @@ returns-3 c =
 
 returns-4 : tie.Need-returns-4
 returns-4 c =
-    let s = c .before .before in
+    let s = c .before .before .before in
     let e = s .before .before in
     let k = e .before in
     let h = at-header k in
@@ -48,9 +48,11 @@ entry-is-valid-spec =
     tie.close
     (tie.spec
     (λ c κs. search needs)
+    (λ c. search needs)
     returns
     (λ c κs. search needs)
     returns-2
+    (λ c. search needs)
     (λ c. search needs)
     (λ c. search needs)
     (λ c κs. search needs)

@@ -12,4 +12,4 @@ returns-2 : tie.Need-returns-2
 returns-2 c = search held-costs
 
 pub held-cost-spec : {M : Type 1} → statement M
-held-cost-spec = tie.close (tie.spec (λ c. search needs) (λ c. search needs) solution-cost-requires (λ c. search needs) returns-2)
+held-cost-spec = tie.close (tie.spec (λ c. search needs) (λ c. search needs) (λ c. search needs) solution-cost-requires (λ c. search needs) returns-2)

@@ -51,13 +51,20 @@ held-cost-requires c κs =
     can-judge (t .before .loop .inv) (t .loop-test .taken) (v .entry-is-valid .ensures) (c .if4 .left)
 
 loop-again : tie.Need-loop-again Inv-loop μ-loop
-loop-again c = search one-passed
+loop-again c =
+    let k = c .before .before in
+    let v = k .before in
+    let t = v .before .before in
+    one-passed (t .before .loop .inv) (t .loop-test .taken) (v .entry-is-valid .ensures) (k .if4 .left) (c .before .held-cost .ensures) (c .lesser-of .ensures)
 
 returns-5 : tie.Need-returns-5 Inv-loop μ-loop
 returns-5 c = search best-beyond
 
 best-is-valid-requires : tie.Need-best-is-valid-requires Inv-loop μ-loop
-best-is-valid-requires c κs = search best-in-use
+best-is-valid-requires c κs =
+    let b = c .before .before .before in
+    let t = b .before .before in
+    best-in-use (t .before .loop .inv) (t .loop-test .left) (b .best .given .1) (c .before .if5 .left)
 
 returns-6 : tie.Need-returns-6 Inv-loop μ-loop
 returns-6 c = search no-best
@@ -71,14 +78,18 @@ is-valid-spec =
     (tie.spec
     Inv-loop
     μ-loop
+    (λ c. search needs)
     returns
+    (λ c. search needs)
     returns-2
+    (λ c. search needs)
     (λ c. search needs)
     (λ c. search needs)
     part-goals-end
     (λ c κs. search needs)
     (λ c κs. search needs)
     returns-3
+    (λ c. search needs)
     loop-holds
     (λ c. search needs)
     (λ c. search needs)
@@ -93,6 +104,7 @@ is-valid-spec =
     (λ c κs. search needs)
     (λ c. search needs)
     returns-5
+    (λ c. search needs)
     (λ c. search needs)
     (λ c. search needs)
     best-is-valid-requires

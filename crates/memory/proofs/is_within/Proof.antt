@@ -9,4 +9,4 @@ returns-2 : tie.Need-returns-2
 returns-2 c = search known-read
 
 pub is-within-spec : {M : Type 1} → statement M
-is-within-spec = tie.close (tie.spec (λ c. search needs) (λ c. search needs) (λ c κs. search needs) (λ c. search needs) returns-2)
+is-within-spec = tie.close (tie.spec (λ c. search needs) (λ c. search needs) (λ c. search needs) (λ c κs. search needs) (λ c. search needs) returns-2)

@@ -18,11 +18,11 @@ returns c = let r = c .before in plan-skips (at-start r .pre) (r .before .wide .
 
 returns-2 : tie.Need-returns-2
 returns-2 c =
-    let t = c .before .before .before in
+    let t = c .before .before in
     let e = at-if1 (t .before) in
     let r = e .before in
     plan-shares (at-start r .pre) (r .before .wide .ensures) (r .root-cost .ensures) (e .if1 .left)
-    (t .before .before .wide2 .ensures) refl (t .if2 .taken) (c .before .wide3 .ensures) (c .with-entry .ensures)
+    (t .before .before .wide2 .ensures) refl (t .if2 .taken) (c .with-entry .ensures)
 
 returns-3 : tie.Need-returns-3
 returns-3 c =
@@ -30,7 +30,7 @@ returns-3 c =
     let e = at-if1 (t .before) in
     let r = e .before in
     plan-plants (at-start r .pre) (r .before .wide .ensures) (r .root-cost .ensures) (e .if1 .left)
-    (t .before .before .wide2 .ensures) refl (t .if2 .left) (c .before .before .header .ensures) (c .before .wide4 .ensures) (c .with-entry2 .ensures)
+    (t .before .before .wide2 .ensures) refl (t .if2 .left) (c .before .before .header .ensures) (c .before .wide3 .ensures) (c .with-entry2 .ensures)
 
 pub plan-root-spec : {M : Type 1} → statement M
 plan-root-spec =
@@ -43,7 +43,6 @@ plan-root-spec =
     (λ c. search needs)
     (λ c. search needs)
     (λ c. search needs)
-    (λ c κs. search needs)
     (λ c κs. search needs)
     returns-2
     (λ c κs. search needs)

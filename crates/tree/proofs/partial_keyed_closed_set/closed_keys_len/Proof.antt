@@ -30,14 +30,10 @@ sub-result : tie.Need-sub-result Inv-loop μ-loop
 sub-result c = omega (arith, c .before .loop .inv .few, c .before .loop .inv .within, c .before .before .closed-at .ensures)
 
 sub-result-2 : tie.Need-sub-result-2 Inv-loop μ-loop
-sub-result-2 c =
-    let at-loop = c .before .before in
-    omega (arith, at-loop .loop .inv .few, at-loop .loop .inv .within, at-loop .before .closed-at .ensures, c .wide .ensures)
+sub-result-2 c = omega (arith, c .before .loop .inv .few, c .before .loop .inv .within, c .before .before .closed-at .ensures)
 
 returns : tie.Need-returns Inv-loop μ-loop
-returns c =
-    let at-loop = c .before .before in
-    omega (arith, counted-all (at-loop .loop .inv) (c .before .loop-test .left), at-loop .before .closed-at .ensures, c .wide .ensures)
+returns c = omega (arith, counted-all (c .before .loop .inv) (c .loop-test .left), c .before .before .closed-at .ensures)
 
 pub closed-keys-len-spec : {M : Type 1} → statement M
 closed-keys-len-spec =
@@ -54,6 +50,6 @@ closed-keys-len-spec =
     (λ c. search needs)
     loop-again
     sub-result
-    (λ c κs. search needs)
+    (λ c. search needs)
     sub-result-2
     returns)

@@ -22,7 +22,7 @@ returns-2 : tie.Need-returns-2
 returns-2 c = held-at _ (at-best (c .before .before) .best .given .1) (c .enum-told2 .given .1)
 
 returns-3 : tie.Need-returns-3
-returns-3 c = held-at _ (at-best (c .before .before .before) .best .given .1) (c .before .solution .given .1)
+returns-3 c = held-at _ (at-best (c .before .before .before .before) .best .given .1) (c .before .before .solution .given .1)
 
 pub shown-of-spec : {M : Type 1} → statement M
 shown-of-spec =
@@ -31,9 +31,11 @@ shown-of-spec =
     (λ c. search needs)
     (λ c. search needs)
     returns
+    (λ c. search needs)
     mul-memory
     element-copy-out-memory
     (λ c. search needs)
     (λ c. search needs)
     returns-2
+    (λ c. search needs)
     returns-3)
