@@ -18,7 +18,7 @@ use Rattle.model.specs.Valid.{valid}
 use Rattle.model.specs.Calls.{Cache, AfterStep, orElse, stepBy, step}
 use Rattle.model.proofs.Replies.{step-told, answered-refused}
 use Rattle.model.proofs.Valid.{valid-at}
-use Rattle.layout.specs.Layout.{slotsAt, queueAt, slotAt, treeWords, edgesIn, queuedIn, slotsIn, treesIn, verticesIn}
+use Rattle.layout.specs.Layout.{slotsAt, queuedAt, queueAt, slotAt, treeWords, edgesIn, queuedIn, slotsIn, treesIn, verticesIn}
 use Rattle.layout.specs.Read.{treeIn, readCache}
 use Rattle.layout.specs.Sound.{soundWordsb}
 use Rattle.layout.proofs.Places.{part-at}
@@ -40,12 +40,12 @@ use Rattle.dijkstra.proofs.Histories.{step-is}
 module _ (m l k : ℕ) (a b : List ℕ) (f : Formed l (slotWords m l k a)) (g : Formed l (slotWords m l k b)) where
   slot-determined : length (slotWords m l k a) ≡ treeWords m l → length (slotWords m l k b) ≡ treeWords m l
       → treeIn m l (slotWords m l k a) ≡ treeIn m l (slotWords m l k b)
-      → (i : ℕ) → i < treeWords m l → (i < queueAt l) ⊎ (queueAt l + getD a (slotAt m l k + 2) 0 ≤ i)
+      → (i : ℕ) → i < treeWords m l → (i < queueAt l) ⊎ (queueAt l + getD a (slotAt m l k + queuedAt) 0 ≤ i)
       → getD a (slotAt m l k + i) 0 ≡ getD b (slotAt m l k + i) 0
   slot-determined na nb same i h free =
       let s : List ℕ = slotWords m l k a in
       let t : List ℕ = slotWords m l k b in
-      let queued : queuedIn s ≡ getD a (slotAt m l k + 2) 0 = part-at (slotAt m l k) (treeWords m l) a 2 (omega arith) in
+      let queued : queuedIn s ≡ getD a (slotAt m l k + queuedAt) 0 = part-at (slotAt m l k) (treeWords m l) a queuedAt (omega arith) in
       sym (part-at (slotAt m l k) (treeWords m l) a i h)
       ∙ words-determined l s t f g (na ∙ sym nb) (tree-of m l s na ∙ same ∙ sym (tree-of m l t nb)) i (subst (λ (q : ℕ). (i < queueAt l) ⊎ (queueAt l + q ≤ i)) (sym queued) free)
       ∙ part-at (slotAt m l k) (treeWords m l) b i h
@@ -93,7 +93,7 @@ module _ (ws : List ℕ) (s : Search) where
 
   module _ (left left′ : List ℕ) (a : Apart ws s left) (b : Apart ws s left′) (cache : readCache left ≡ readCache left′) where
     in-slot : soundWordsb left ≡ true → soundWordsb left′ ≡ true → (k : ℕ) → k < u → (i : ℕ) → i < treeWords m l
-        → (i < queueAt l) ⊎ (queueAt l + getD left (slotAt m l k + 2) 0 ≤ i) → getD left (slotAt m l k + i) 0 ≡ getD left′ (slotAt m l k + i) 0
+        → (i < queueAt l) ⊎ (queueAt l + getD left (slotAt m l k + queuedAt) 0 ≤ i) → getD left (slotAt m l k + i) 0 ≡ getD left′ (slotAt m l k + i) 0
     in-slot y z k h i =
         let p = left-sound left a y in
         let q = left-sound left′ b z in
@@ -116,10 +116,10 @@ module _ (ws : List ℕ) (s : Search) where
           i : ℕ
           i = j - slotAt m l k
 
-          free : (i < queueAt l) ⊎ (queueAt l + getD left (slotAt m l k + 2) 0 ≤ i)
+          free : (i < queueAt l) ⊎ (queueAt l + getD left (slotAt m l k + queuedAt) 0 ≤ i)
           free = elim (decLt i (queueAt l)) [
             | yes f ↦ inl f
-            | no n ↦ elim (decLt i (queueAt l + getD left (slotAt m l k + 2) 0)) [
+            | no n ↦ elim (decLt i (queueAt l + getD left (slotAt m l k + queuedAt) 0)) [
               | yes q ↦ absurd (other (record { which = x .which; is-entry = x .is-entry; from = omega arith; below = omega arith }))
               | no q ↦ inr (omega arith)
             ]

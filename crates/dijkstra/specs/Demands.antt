@@ -22,7 +22,7 @@ use Rattle.model.specs.Calls.{opened}
 use Rattle.model.specs.Demands.{Call, initializing as initializingCall, stepping as steppingCall, retracing as retracingCall, reading, both, Act, ownStep, ownRetrace, other, Event, stepped, retraced, Owed}
 use Rattle.model.specs.Reference.{afterAll, eventsFrom}
 use Rattle.text.specs.Read.{readGraph}
-use Rattle.layout.specs.Layout.{queueAt, slotAt, edgesIn, verticesIn}
+use Rattle.layout.specs.Layout.{queuedAt, queueAt, slotAt, edgesIn, verticesIn}
 use Rattle.layout.specs.Read.{directionOf, readCache}
 use Rattle.cache.specs.Open.{Opening}
 use Rattle.dijkstra.specs.Calls.{Initializing, Stepping, Retracing, afterRetrace}
@@ -106,14 +106,14 @@ Demand3 =
 
 -- ---- what is free: the arrangement of queue words, and nothing else
 
--- word j is one of the queue words in use in the slot of an entry, as a step on the words ws left them; word 2 of a tree is its queue length
+-- word j is one of the queue words in use in the slot of an entry, as a step on the words ws left them
 pub record QueueWord (ws : List ℕ) (s : Search) (left : List ℕ) (j : ℕ) : Type 0 where
   pub which : ℕ
   pub is-entry : which < s .«tree_count»
   pub from : slotAt (verticesIn ws) (edgesIn ws) (entry s which .tree) + queueAt (edgesIn ws) ≤ j
   pub below :
       let slot = slotAt (verticesIn ws) (edgesIn ws) (entry s which .tree) in
-      j < slot + queueAt (edgesIn ws) + getD left (slot + 2) 0
+      j < slot + queueAt (edgesIn ws) + getD left (slot + queuedAt) 0
 
 -- every other word is the same, and so is the cache that the words hold: in the queue words the same nodes wait
 pub record SameBut (ws : List ℕ) (s : Search) (left left′ : List ℕ) : Type 0 where
