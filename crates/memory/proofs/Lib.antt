@@ -5,4 +5,5 @@ pub mod Costs
 pub mod Fits
 pub mod Goals
 pub mod Entries
+pub mod Judged
 pub mod Valid

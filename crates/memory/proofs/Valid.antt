@@ -25,8 +25,12 @@ use Rattle.layout.specs.Read.{readCache}
 use Rattle.sound.specs.Facts.{SoundWords, InUse}
 use Rattle.sound.proofs.Facts.{vertices-read}
 use Rattle.sound.proofs.Tests.{all-fails}
+use Rattle.memory.specs.declared.Standing.{Standing}
+use Rattle.memory.specs.declared.Standing.the-variants.{Invalid}
 use Rattle.memory.specs.Memory.{Listed, CanJudge, bestNodeTests}
+use Rattle.memory.specs.Standing.{standingIn}
 use Rattle.memory.proofs.Fits.{in-use, listed-fits, holds-at, held-at}
+use Rattle.memory.proofs.Judged.{refuses}
 use Rattle.memory.proofs.Costs.{Least, least-none, least-more, least-all}
 use Rattle.layout.specs.Layout.{verticesIn}
 use Rattle.layout.proofs.Members.{list-fails}
@@ -52,33 +56,33 @@ module _ (ws : List ℕ) (s : Search) where
   abbrev tests : List Bool
   tests = validTests (readCache ws .domain) (readCache ws .trees) s
 
-  abbrev is : Bool
-  is = valid (readCache ws .domain) (readCache ws .trees) s
+  abbrev is : Standing
+  is = standingIn (readCache ws) s
 
   -- ---- the counts, the best's entry, and the goals
 
-  pub many-trees : 64 < s .«tree_count» → false ≡ is
+  pub many-trees : 64 < s .«tree_count» → Invalid ≡ is
   unfolding valid
-  many-trees h = sym (all-fails tests 0 (all-fails (listTests s) 1 (lt-leb (s .«tree_count») 64 h)))
+  many-trees h = refuses ws s (sym (all-fails tests 0 (all-fails (listTests s) 1 (lt-leb (s .«tree_count») 64 h))))
 
-  pub many-goals : 64 < s .«goal_count» → false ≡ is
+  pub many-goals : 64 < s .«goal_count» → Invalid ≡ is
   unfolding valid
-  many-goals h = sym (all-fails tests 0 (all-fails (listTests s) 3 (lt-leb (s .«goal_count») 64 h)))
+  many-goals h = refuses ws s (sym (all-fails tests 0 (all-fails (listTests s) 3 (lt-leb (s .«goal_count») 64 h))))
 
-  pub best-beyond : {i n : ℕ} → s .«best_solution» ≡ Best i n → s .«tree_count» ≤ i → false ≡ is
+  pub best-beyond : {i n : ℕ} → s .«best_solution» ≡ Best i n → s .«tree_count» ≤ i → Invalid ≡ is
   unfolding valid
   best-beyond {i} {n} e h =
       let two : List Bool = bestTests (readCache ws .trees) s i n in
-      sym (all-fails tests 3 (ap (bestCloses (readCache ws .trees) s) e ∙ all-fails two 0 (le-ltb i (s .«tree_count») h)))
+      refuses ws s (sym (all-fails tests 3 (ap (bestCloses (readCache ws .trees) s) e ∙ all-fails two 0 (le-ltb i (s .«tree_count») h))))
 
   -- r: whether the goals are vertices
   module _ (ok : SoundWords ws) {n : ℕ} {r : Bool} (z : n ≡ verticesIn ws) (below : r ≡ allBelow n (goalsLent s)) where
     read : r ≡ allBelow (vertexCount (readCache ws .domain .graph)) (goals s)
     read = below ∙ ap₂ allBelow (z ∙ sym (vertices-read ok)) (goals-lent s)
 
-    pub goals-refuse : not r ≡ true → false ≡ is
+    pub goals-refuse : not r ≡ true → Invalid ≡ is
     unfolding valid
-    goals-refuse f = sym (all-fails tests 1 (sym read ∙ not-true r f))
+    goals-refuse f = refuses ws s (sym (all-fails tests 1 (sym read ∙ not-true r f)))
 
     pub none-passed : not r ≡ false → Listed s → Passed ws s Unbounded (s .«tree_count»)
     unfolding everyb
@@ -108,11 +112,11 @@ module _ {ws : List ℕ} {s : Search} {least : CostBound} {i : ℕ} (p : Passed 
         ∙ ap (λ (gs : List ℕ). allb (entryTests (readCache ws .domain) (readCache ws .trees) gs (entry s (i - 1)))) (goals-lent s)
         ∙ sym (ap (passes ws s) (entries-at s fits (i - 1) (omega (arith, p .costs .left))))
 
-    pub entry-refuses : not r ≡ true → false ≡ valid (readCache ws .domain) (readCache ws .trees) s
+    pub entry-refuses : not r ≡ true → Invalid ≡ standingIn (readCache ws) s
     unfolding valid everyb
     entry-refuses f =
         let fails = list-fails (passes ws s) blank (everyb (passes ws s)) refl (λ x xs. refl) (entries s) (i - 1) within (sym passed ∙ not-true r f) in
-        sym (all-fails (validTests (readCache ws .domain) (readCache ws .trees) s) 2 (sym fails))
+        refuses ws s (sym (all-fails (validTests (readCache ws .domain) (readCache ws .trees) s) 2 (sym fails)))
 
     module _ (f : not r ≡ false) where
       pub can-judge : CanJudge ws (entry s (i - 1))

@@ -17,51 +17,66 @@ ghost use mathlib.Core.Path.{_≡_};
 ghost use Rattle.model.specs.Lists.{allb};
 ghost use Rattle.model.specs.Worth.{solutionCost};
 ghost use Rattle.model.specs.Sound.{tree};
-ghost use Rattle.model.specs.Valid.{valid, knownWithin, closesGoal, entryTests, heldCost, lesser, sameCost, isHeld};
+ghost use Rattle.model.specs.Valid.{knownWithin, closesGoal, entryTests, heldCost, lesser, sameCost, isHeld};
 ghost use Rattle.layout.specs.Read.{readCache};
 ghost use Rattle.tree.specs.Tree.{treeOf};
 ghost use Rattle.sound.specs.Facts.{SoundWords, InUse};
 ghost use Rattle.memory.specs.Memory.{HasNode, HasVertices, CanJudge, bestNodeTests};
+ghost use Rattle.memory.specs.Standing.{shownAt, standingOf, standingIn};
 
-// Whether a record is not strange. All of it is looked at in this one function, for each that it is handed to copies it.
-pub fn is_valid(words: &[u32], search: Search) -> bool
+// The node that a finished search shows: one of the tree in a slot.
+pub enum Shown {
+    Nothing,
+    Node { slot: usize, node: u32 },
+}
+
+// How a search stands. A strange record is invalid.
+pub enum Standing {
+    Invalid,
+    Unfinished,
+    Finished(Shown),
+}
+
+// Judges a record, and tells how its search stands. All of it is looked at in this one function, for each that it is handed to copies it.
+pub fn judge(words: &[u32], search: Search) -> Standing
     requires { ⌜ SoundWords (now words) ⌝ }
-    ensures { λ r. ⌜ r ≡ valid (readCache (now (words .entry)) .domain) (readCache (now (words .entry)) .trees) search ⌝ }
+    ensures { λ r. ⌜ r ≡ standingIn (readCache (now (words .entry))) search ⌝ }
 {
     if MAX_ENTRIES < search.tree_count as usize {
-        return false;
+        return Standing::Invalid;
     }
     if MAX_ENTRIES < search.goal_count as usize {
-        return false;
+        return Standing::Invalid;
     }
+    let trees = search.trees;
     let keys = search.goal_keys;
     let count = search.goal_count as usize;
     let goals = &keys[0..count];
     if !are_vertices(goals, layout::header(words, layout::VERTICES)) {
-        return false;
+        return Standing::Invalid;
     }
     let mut least = CostBound::Unbounded;
     let mut i = search.tree_count as usize;
     while 0 < i {
         i -= 1;
-        let memory = search.trees[i];
+        let memory = trees[i];
         if !entry_is_valid(words, memory, goals) {
-            return false;
+            return Standing::Invalid;
         }
         let held = held_cost(words, memory);
         least = lesser_of(held, least);
     }
     let best = search.best_solution;
-    match best {
-        BestSolution::NoBest => is_same(CostBound::Unbounded, least),
-        BestSolution::Best { entry, node } => {
-            if search.tree_count <= entry {
-                return false;
-            }
-            let memory = search.trees[entry as usize];
-            best_is_valid(words, memory, goals, node, least, search.exhausted)
-        }
+    let BestSolution::Best { entry, node } = best else {
+        let is_valid = is_same(CostBound::Unbounded, least);
+        return stands(is_valid, search.exhausted, Shown::Nothing);
+    };
+    if search.tree_count <= entry {
+        return Standing::Invalid;
     }
+    let memory = trees[entry as usize];
+    let is_valid = best_is_valid(words, memory, goals, node, least, search.exhausted);
+    stands(is_valid, search.exhausted, shown_at(memory))
 }
 
 fn entry_is_valid(words: &[u32], memory: TreeMemory, goals: &[u32]) -> bool
@@ -203,4 +218,30 @@ fn is_held(solution: Solution) -> bool
         Solution::Unsolved => false,
         Solution::At(_) => true,
     }
+}
+
+// The solution that an entry holds.
+pub fn shown_at(memory: TreeMemory) -> Shown
+    ensures { λ r. ⌜ r ≡ shownAt memory (memory .solution) ⌝ }
+{
+    let solution = memory.solution;
+    match solution {
+        Solution::Unsolved => Shown::Nothing,
+        Solution::At(node) => Shown::Node {
+            slot: memory.tree as usize,
+            node,
+        },
+    }
+}
+
+fn stands(is_valid: bool, exhausted: bool, shown: Shown) -> Standing
+    ensures { λ r. ⌜ r ≡ standingOf «is_valid» exhausted shown ⌝ }
+{
+    if !is_valid {
+        return Standing::Invalid;
+    }
+    if !exhausted {
+        return Standing::Unfinished;
+    }
+    Standing::Finished(shown)
 }

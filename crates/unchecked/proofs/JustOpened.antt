@@ -29,7 +29,7 @@ use Rattle.layout.specs.Read.{readCache}
 use Rattle.sound.specs.Facts.{SoundWords}
 use Rattle.sound.proofs.Facts.{sound-accepted, sound-cache}
 use Rattle.unchecked.specs.Initialize.{Initializes}
-use Rattle.unchecked.specs.declared.shown.Shown.the-variants as shown
+use Rattle.memory.specs.declared.Shown.the-variants as shown
 use Rattle.unchecked.specs.declared.SearchRun.{SearchRun}
 use Rattle.unchecked.specs.Run.{ticketLimit, RunsToEnd, RunsAfter, Runs, JustOpened}
 

@@ -25,8 +25,8 @@ use Rattle.model.proofs.Faults.{shownWith, retraceAs, retrace-as, retrace-shown
 use Rattle.model.proofs.Turns.{unsolved-at}
 use Rattle.model.proofs.Valid.{valid-at}
 use Rattle.layout.specs.Read.{directionOf, readCache}
-use Rattle.unchecked.specs.declared.shown.Shown.{Shown}
-use Rattle.unchecked.specs.Shown.{shownIn}
+use Rattle.memory.specs.declared.Shown.{Shown}
+use Rattle.memory.specs.Standing.{shownIn}
 use Rattle.unchecked.specs.Retrace.{Retraces, retraceNodeIf, retraceNode, retraceShown}
 use Rattle.unchecked.proofs.ShownNode.{shown-cases}
 use Rattle.unchecked.proofs.Initialized.{direction-is}

@@ -21,8 +21,8 @@ use Rattle.memory.specs.Memory.{HasNode}
 use Rattle.sound.proofs.InUse.{words-formed, words-used}
 use Rattle.paths.specs.Path.{CanBacktrack, Backtracks}
 use Rattle.unchecked.proofs.Nodes.{nodes-are, is-hung}
-use Rattle.unchecked.specs.declared.shown.Shown.{Shown}
-use Rattle.unchecked.specs.declared.shown.Shown.the-variants as shown
+use Rattle.memory.specs.declared.Shown.{Shown}
+use Rattle.memory.specs.declared.Shown.the-variants as shown
 use Rattle.unchecked.specs.Retrace.{afterRetrace, retraceNodeIf, RetracesNode, retraceShown, RetracesShown}
 use Rattle.layout.specs.Layout.{directionIn, edgesIn, verticesIn}
 use Rattle.layout.specs.Slots.{slotWords}

@@ -28,11 +28,12 @@ use Rattle.sound.proofs.Facts.{sound-accepted}
 use Rattle.memory.proofs.Fits.{valid-fits}
 use Rattle.entry_turns.specs.declared.Turned.{Turned}
 use Rattle.entry_turns.specs.Turn.{CanStep, Steps}
-use Rattle.unchecked.specs.declared.shown.Shown.{Shown}
-use Rattle.unchecked.specs.declared.shown.Shown.the-variants as shown
+use Rattle.memory.specs.declared.Shown.{Shown}
+use Rattle.memory.specs.declared.Shown.the-variants as shown
 use Rattle.unchecked.specs.Step.{Advances}
 use Rattle.unchecked.specs.Solve.{Waited, at-first, once-more, one-ends, Solves}
-use Rattle.unchecked.specs.Shown.{shownIn, CanShow, Shows, statusOf}
+use Rattle.memory.specs.Standing.{shownIn}
+use Rattle.unchecked.specs.Shown.{CanShow, Shows, statusOf}
 use Rattle.unchecked.specs.Retrace.{retraceShown}
 use Rattle.unchecked.specs.Run.{ticketLimit, JustOpened, RunsToEnd}
 use Rattle.unchecked.proofs.Records.{step-few}

@@ -1,6 +1,7 @@
 -- The node that a search shows: it is one of a tree in use, and what is answered of it is the model's.
 -- Assumes nothing.
 use mathlib.Core.Path.{_≡_, refl, sym, ap, ap₂, _∙_, subst}
+use mathlib.Core.Bool.{true}
 use mathlib.Core.List.{List}
 use Prim.Native.Nat.{ℕ}
 use Rattle.model.specs.declared.BestSolution.{BestSolution}
@@ -13,24 +14,21 @@ use Rattle.model.specs.Tree.{Tree, node}
 use Rattle.model.specs.Sound.{tree}
 use Rattle.model.specs.Path.{movesOf}
 use Rattle.model.specs.Search.{entry}
+use Rattle.model.specs.Valid.{valid}
 use Rattle.model.specs.Calls.{shownBy, shownTreeBy, statusAt, finalStatus}
+use Rattle.layout.specs.Read.{readCache}
+use Rattle.sound.specs.Facts.{SoundWords}
 use Rattle.memory.specs.Memory.{HasNode}
-use Rattle.memory.proofs.Fits.{best-few, held-node}
+use Rattle.memory.proofs.Fits.{best-few, held-node, valid-fits}
 use Rattle.entry_turns.specs.Turn.{CanStep}
-use Rattle.unchecked.specs.declared.shown.Shown.{Shown}
-use Rattle.unchecked.specs.declared.shown.Shown.the-variants as shown
-use Rattle.unchecked.specs.Shown.{shownAt, shownFor, shownIn, CanShow, Shows, statusOf}
+use Rattle.memory.specs.declared.Shown.{Shown}
+use Rattle.memory.specs.declared.Shown.the-variants as shown
+use Rattle.memory.specs.Standing.{shownAt, shownFor, shownIn}
+use Rattle.unchecked.specs.Shown.{CanShow, Shows, statusOf}
 
 -- ---- by what the record holds
 
 module _ (s : Search) where
-  pub none-best : s .«best_solution» ≡ NoBest → shown.Nothing ≡ shownIn s
-  none-best e = sym (ap (shownFor s) e)
-
-  module _ {i n : ℕ} (best : s .«best_solution» ≡ Best i n) where
-    pub held-at : {o : Solution} → entry s i .solution ≡ o → shownAt (entry s i) o ≡ shownIn s
-    held-at e = ap (shownAt (entry s i)) (sym e) ∙ sym (ap (shownFor s) best)
-
   -- by cases: nothing is best; the best's entry holds nothing; it holds a node
   pub shown-cases : (P : Shown → Type 0) → (s .«best_solution» ≡ NoBest → P shown.Nothing)
       → ((i n : ℕ) → s .«best_solution» ≡ Best i n → entry s i .solution ≡ Unsolved → P shown.Nothing)
@@ -77,3 +75,7 @@ module _ {ws : List ℕ} {s : Search} (v : CanStep ws s) where
 
   pub shows : Shows ws (shownIn s)
   shows = shown-cases s (Shows ws) (λ b. tt) (λ i n b e. tt) (λ i n h b e. held-node (v .sound, v .fits .held i (v .fits .best i n b .0)) e)
+
+-- of a record that is not refused
+pub valid-shows : {ws : List ℕ} (s : Search) {o : Shown} → SoundWords ws → valid (readCache ws .domain) (readCache ws .trees) s ≡ true → o ≡ shownIn s → Shows ws o
+valid-shows {ws} s ok fine e = subst (Shows ws) (sym e) (shows (record { sound = ok; fits = valid-fits ws s ok fine }))

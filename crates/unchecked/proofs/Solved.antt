@@ -11,16 +11,16 @@ use Rattle.model.specs.declared.StepAnswer.the-variants as stepping
 use Rattle.model.specs.declared.Search.{Search}
 use Rattle.model.specs.declared.Stepped.{Stepped}
 use Rattle.model.specs.declared.StepsTaken.{StepsTaken}
-use Rattle.model.specs.Answers.{stepReply}
+use Rattle.model.specs.Answers.{Reply, Status, stepReply}
 use Rattle.model.specs.Calls.{Cache, step}
 use Rattle.model.specs.Solve.{isWaiting, lastReply, AfterSteps, stepsFrom, solve}
-use Rattle.model.proofs.Solve.{is-waiting, steps-none, steps-end, last, solve-some, solve-from, solve-looks}
+use Rattle.model.proofs.Solve.{is-waiting, steps-none, steps-wait, steps-end, last, solve-some, solve-from, solve-looks}
 use Rattle.model.proofs.Replies.{step-told}
 use Rattle.layout.specs.Read.{readCache}
 use Rattle.sound.specs.Facts.{SoundWords}
-use Rattle.unchecked.specs.Step.{Advances}
+use Rattle.unchecked.specs.Step.{Leaves, Advances}
 use Rattle.unchecked.specs.Solve.{Waited, at-first, StepsMade, all-wait, one-ends, LeavesAfter, Solves}
-use Rattle.unchecked.proofs.Advanced.{rests}
+use Rattle.unchecked.proofs.Advanced.{leaves-same, rests}
 use Rattle.unchecked.proofs.Waits.{leaves-all, unmoved, waited-stays}
 
 module _ (ws : List ℕ) (s : Search) (ok : SoundWords ws) where
@@ -86,3 +86,36 @@ module _ (ws : List ℕ) (s : Search) (ok : SoundWords ws) where
       go false w =
           let r : Stepped = record { answer = a; tickets = 0; search = s } in
           made-solves (one-ends r a (omega arith) at-first (rests ws s ok a e w) w refl)
+
+  -- ---- one step, which tells what it answers
+
+  pub one-advances : {r : StepsTaken} {left : List ℕ} → Solves ws s 1 r left
+      → Advances ws s (record { answer = r .answer; tickets = r .tickets; search = r .search }) left
+  one-advances {r} {left} h = go (isWaiting (step c s .reply)) refl
+    where
+      leaves : {w : ℕ} → solve 1 c s .waits ≡ w → LeavesAfter w ws s left
+      leaves e = subst (λ (w : ℕ). LeavesAfter w ws s left) (h .waits ∙ e) (h .words)
+
+      go : (b : Bool) → isWaiting (step c s .reply) ≡ b → Advances ws s (record { answer = r .answer; tickets = r .tickets; search = r .search }) left
+      go true e =
+          let told = is-waiting (step c s .reply) e in
+          let is = solve-some 0 c s ∙ steps-wait c s 0 0 0 e ∙ steps-none (step c s .cache) (step c s .search) 1 (0 + step c s .tickets) in
+          record {
+            answer = h .answer ∙ ap (λ (y : AfterSteps). y .reply) is ∙ sym told;
+            tickets = omega (arith, h .tickets, ap (λ (y : AfterSteps). y .tickets) is);
+            search = h .search ∙ ap (λ (y : AfterSteps). y .search) is;
+            cache = h .cache ∙ ap (λ (y : AfterSteps). y .cache) is;
+            sound = h .sound;
+            words = subst (λ (y : Reply Status). Leaves y ws s left) (sym told) (leaves (ap (λ (y : AfterSteps). y .waits) is));
+          }
+      go false e =
+          let is = solve-some 0 c s ∙ steps-end c s 0 0 0 e in
+          let same : left ≡ ws = leaves (ap (λ (y : AfterSteps). y .waits) is) in
+          record {
+            answer = h .answer ∙ ap (λ (y : AfterSteps). y .reply) is;
+            tickets = omega (arith, h .tickets, ap (λ (y : AfterSteps). y .tickets) is);
+            search = h .search ∙ ap (λ (y : AfterSteps). y .search) is;
+            cache = h .cache ∙ ap (λ (y : AfterSteps). y .cache) is;
+            sound = h .sound;
+            words = subst (Leaves (step c s .reply) ws s) (sym same) (leaves-same (step c s .reply) ws s);
+          }

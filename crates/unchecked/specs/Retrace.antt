@@ -15,8 +15,8 @@ use Rattle.model.specs.Path.{movesOf, words}
 use Rattle.model.specs.Calls.{AfterRetrace, retrace, written}
 use Rattle.layout.specs.Layout.{directionIn}
 use Rattle.layout.specs.Read.{directionOf, readCache}
-use Rattle.unchecked.specs.declared.shown.Shown.{Shown}
-use Rattle.unchecked.specs.declared.shown.Shown.the-variants as shown
+use Rattle.memory.specs.declared.Shown.{Shown}
+use Rattle.memory.specs.declared.Shown.the-variants as shown
 
 -- an answer and what the path's slice holds then
 abbrev pub afterRetrace : RetraceAnswer → List ℕ → AfterRetrace

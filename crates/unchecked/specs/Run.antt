@@ -15,7 +15,7 @@ use Rattle.model.specs.Calls.{retrace}
 use Rattle.model.specs.Solve.{maxSteps}
 use Rattle.layout.specs.Read.{readCache}
 use Rattle.sound.specs.Facts.{SoundWords}
-use Rattle.unchecked.specs.declared.shown.Shown.the-variants as shown
+use Rattle.memory.specs.declared.Shown.the-variants as shown
 use Rattle.unchecked.specs.declared.SearchRun.{SearchRun}
 use Rattle.unchecked.specs.Initialize.{Initializes}
 use Rattle.unchecked.specs.Solve.{Solves}

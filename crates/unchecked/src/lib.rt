@@ -5,7 +5,9 @@ pub mod shown;
 use entry_turns::step_trees;
 use layout::lists::are_vertices;
 use layout::wide;
-use memory::is_valid;
+use memory::Shown;
+use memory::Standing;
+use memory::judge;
 use model::InitializeAnswer;
 use model::Refusal;
 use model::RetraceAnswer;
@@ -16,7 +18,6 @@ use model::StepAnswer;
 use model::Stepped;
 use model::StepsTaken;
 use model::limits::MAX_ENTRIES;
-use shown::Shown;
 use shown::not_retraced;
 use shown::retrace_shown;
 use shown::shown_of;
@@ -105,19 +106,12 @@ pub fn step(words: &mut [u32], search: Search) -> Stepped
     requires { ⌜ SoundWords (now words) ⌝ }
     ensures { λ r. ⌜ Advances (now (words .entry)) search r (now (words .exit)) ⌝ }
 {
-    let answer = standing(words, search);
-    if !is_waiting(answer) {
-        return Stepped {
-            answer,
-            tickets: 0,
-            search,
-        };
-    }
-    let turned = step_trees(words, search);
-    let next = turned.search;
+    let taken = steps_to_answer(words, search, 1);
+    let answer = taken.answer;
+    let next = taken.search;
     Stepped {
         answer,
-        tickets: turned.tickets,
+        tickets: taken.tickets,
         search: next,
     }
 }
@@ -246,17 +240,14 @@ pub fn standing(words: &[u32], search: Search) -> StepAnswer
     requires { ⌜ SoundWords (now words) ⌝ }
     ensures { λ r. ⌜ stepReply r ≡ Model·step (readCache (now (words .entry))) search .reply ⌝ }
 {
-    if !is_valid(words, search) {
-        return StepAnswer::Refused {
+    match judge(words, search) {
+        Standing::Invalid => StepAnswer::Refused {
             refusal: Refusal::InvalidSearch,
             line: 0,
-        };
+        },
+        Standing::Unfinished => StepAnswer::Status(SearchStatus::Incomplete),
+        Standing::Finished(shown) => StepAnswer::Status(status_of(words, shown)),
     }
-    if search.exhausted {
-        let shown = shown_of(search);
-        return StepAnswer::Status(status_of(words, shown));
-    }
-    StepAnswer::Status(SearchStatus::Incomplete)
 }
 
 pub fn is_waiting(answer: StepAnswer) -> bool
@@ -290,12 +281,9 @@ pub fn retrace(words: &[u32], search: Search, path: &mut [u32]) -> RetraceAnswer
     requires { ⌜ SoundWords (now words) ⌝ }
     ensures { λ r. ⌜ Retraces (now (words .entry)) search (now (path .entry)) r (now (path .exit)) ⌝ }
 {
-    if !is_valid(words, search) {
-        return not_retraced(Refusal::InvalidSearch);
+    match judge(words, search) {
+        Standing::Invalid => not_retraced(Refusal::InvalidSearch),
+        Standing::Unfinished => not_retraced(Refusal::NotSolved),
+        Standing::Finished(shown) => retrace_shown(words, shown, path),
     }
-    if !search.exhausted {
-        return not_retraced(Refusal::NotSolved);
-    }
-    let shown = shown_of(search);
-    retrace_shown(words, shown, path)
 }

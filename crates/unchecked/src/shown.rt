@@ -1,12 +1,13 @@
 // The node that a finished search shows, and what is told of it: its cost, its moves, its path.
 use layout::slots::slot_words;
 use layout::wide;
+use memory::Shown;
+use memory::shown_at;
 use model::BestSolution;
 use model::Refusal;
 use model::RetraceAnswer;
 use model::Search;
 use model::SearchStatus;
-use model::Solution;
 ghost use mathlib.Core.Path.{_≡_};
 ghost use Rattle.model.specs.Answers.{status};
 ghost use Rattle.model.specs.Tree.{node as Tree·node};
@@ -14,14 +15,9 @@ ghost use Rattle.model.specs.Sound.{tree};
 ghost use Rattle.model.specs.Path.{movesOf};
 ghost use Rattle.layout.specs.Read.{readCache};
 ghost use Rattle.memory.specs.Memory.{HasNode};
-ghost use Rattle.unchecked.specs.Shown.{shownIn, CanShow, Shows, statusOf};
+ghost use Rattle.memory.specs.Standing.{shownIn};
+ghost use Rattle.unchecked.specs.Shown.{CanShow, Shows, statusOf};
 ghost use Rattle.unchecked.specs.Retrace.{RetracesShown, RetracesNode};
-
-// A node of the tree in a slot.
-pub enum Shown {
-    Nothing,
-    Node { slot: usize, node: u32 },
-}
 
 // The solution that the best's entry holds.
 pub fn shown_of(search: Search) -> Shown
@@ -33,14 +29,7 @@ pub fn shown_of(search: Search) -> Shown
         return Shown::Nothing;
     };
     let memory = search.trees[entry as usize];
-    let solution = memory.solution;
-    let Solution::At(node) = solution else {
-        return Shown::Nothing;
-    };
-    Shown::Node {
-        slot: memory.tree as usize,
-        node,
-    }
+    shown_at(memory)
 }
 
 // The answer of a finished search.

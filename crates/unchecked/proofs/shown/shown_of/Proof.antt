@@ -1,13 +1,10 @@
 -- `shown_of` meets its contract.
 -- Assumes nothing.
+use mathlib.Core.Path.{_∙_}
 use borrow.Author.Needs.{needs}
-use Rattle.unchecked.proofs.ShownNode.{none-best, held-at}
+use Rattle.memory.proofs.Judged.{none-best, held-best}
 use Rattle.unchecked.proofs.shown.shown_of.Statement.{statement}
 use Rattle.unchecked.proofs.shown.shown_of.Tie as tie
-
--- where the best is known, from where its entry was read
-abbrev at-best : tie.After-memory → tie.After-best
-at-best c = c .before .before
 
 returns : tie.Need-returns
 returns c = none-best _ (c .enum-told .given .1)
@@ -19,10 +16,7 @@ mul-memory : tie.Need-mul-memory
 mul-memory c = search (needs, element-copy-out-memory c)
 
 returns-2 : tie.Need-returns-2
-returns-2 c = held-at _ (at-best (c .before .before) .best .given .1) (c .enum-told2 .given .1)
-
-returns-3 : tie.Need-returns-3
-returns-3 c = held-at _ (at-best (c .before .before .before .before) .best .given .1) (c .before .before .solution .given .1)
+returns-2 c = c .shown-at .ensures ∙ held-best _ (c .before .before .before .best .given .1)
 
 pub shown-of-spec : {M : Type 1} → statement M
 shown-of-spec =
@@ -34,8 +28,5 @@ shown-of-spec =
     (λ c. search needs)
     mul-memory
     element-copy-out-memory
-    (λ c. search needs)
-    (λ c. search needs)
-    returns-2
-    (λ c. search needs)
-    returns-3)
+    (λ c κs. search needs)
+    returns-2)
