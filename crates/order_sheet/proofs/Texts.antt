@@ -19,8 +19,8 @@ use Rattle.model.specs.Solve.{AfterSteps, solve, maxSteps}
 use Rattle.layout.specs.Layout.{directionIn}
 use Rattle.layout.specs.Read.{directionOf, readCache}
 use Rattle.sound.specs.Facts.{SoundWords}
-use Rattle.unchecked.specs.declared.shown.Shown.{Shown}
-use Rattle.unchecked.specs.declared.shown.Shown.the-variants as shown
+use Rattle.memory.specs.declared.Shown.{Shown}
+use Rattle.memory.specs.declared.Shown.the-variants as shown
 use Rattle.unchecked.specs.declared.SearchRun.{SearchRun}
 use Rattle.unchecked.specs.Shown.{Shows, statusOf}
 use Rattle.unchecked.specs.Retrace.{retraceNodeIf, retraceShown}

@@ -18,8 +18,8 @@ use Rattle.layout.specs.Read.{directionOf, readCache}
 use Rattle.layout.specs.Layout.{directionIn}
 use Rattle.sound.specs.Facts.{SoundWords}
 use Rattle.cache.specs.Open.{Opening}
-use Rattle.unchecked.specs.declared.shown.Shown.{Shown}
-use Rattle.unchecked.specs.declared.shown.Shown.the-variants as shown
+use Rattle.memory.specs.declared.Shown.{Shown}
+use Rattle.memory.specs.declared.Shown.the-variants as shown
 use Rattle.order_lines.specs.declared.orders.Numbers.{Numbers}
 use Rattle.order_lines.specs.declared.orders.Form.{Form}
 use Rattle.order_lines.specs.declared.orders.Form.the-variants.{Forward, Backward, Illegal}

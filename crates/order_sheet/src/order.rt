@@ -1,4 +1,5 @@
 // One order: its search is opened on the cache of its direction and stepped until it answers, and its line is put.
+use memory::Shown;
 use model::RetraceAnswer;
 use model::SearchStatus;
 use model::StepAnswer;
@@ -10,7 +11,6 @@ use order_lines::orders::Form;
 use order_lines::orders::Numbers;
 use order_lines::orders::read_order;
 use unchecked::run_search;
-use unchecked::shown::Shown;
 use unchecked::shown::retrace_node;
 ghost use mathlib.Core.Path.{_≡_};
 ghost use Rattle.model.specs.Answers.{stepReply};

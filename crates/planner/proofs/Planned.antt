@@ -21,7 +21,7 @@ use Rattle.model.specs.Plan.{AfterPlan, planFrom}
 use Rattle.model.proofs.Replies.{answered-refused}
 use Rattle.layout.specs.Read.{readCache}
 use Rattle.layout.specs.Sound.{soundWordsb}
-use Rattle.unchecked.specs.declared.shown.Shown.the-variants as shown
+use Rattle.memory.specs.declared.Shown.the-variants as shown
 use Rattle.unchecked.specs.declared.SearchRun.{SearchRun}
 use Rattle.unchecked.specs.Shown.{Shows}
 use Rattle.unchecked.specs.Retrace.{retraceShown, RetracesShown}
