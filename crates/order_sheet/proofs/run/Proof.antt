@@ -30,16 +30,19 @@ Inv-loop chart orders forward₀ backward₀ path₀ out₀ part₀ filled₀ fo
 abbrev μ-loop : tie.MeasureT-loop
 μ-loop chart orders forward₀ backward₀ path₀ out₀ part₀ filled₀ forward backward path out part filled = length orders - part .at
 
--- ---- places: the start, from the loop; that, from where there is room for a line; that, from where the line was put
+-- ---- places: the start, from the loop; that, from a turn and from where the orders end; where there is room for a line; where the line was put
 
 abbrev at-start : tie.At-loop Inv-loop μ-loop → tie.Start Inv-loop μ-loop
 at-start c = c .before .before .before .before .before .before .before .before .before .before
 
-abbrev at-loop : tie.Joined2 Inv-loop μ-loop → tie.At-loop Inv-loop μ-loop
-at-loop c = c .before .before .before
+abbrev at-loop : tie.Then1 Inv-loop μ-loop → tie.At-loop Inv-loop μ-loop
+at-loop c = c .before .before
 
-abbrev at-room : tie.After-put-next Inv-loop μ-loop → tie.Joined2 Inv-loop μ-loop
-at-room c = c .before .before .before .before .before .before
+abbrev at-last : tie.Else1 Inv-loop μ-loop → tie.At-loop Inv-loop μ-loop
+at-last c = c .before .before
+
+abbrev at-room : tie.After-row-known Inv-loop μ-loop → tie.Joined2 Inv-loop μ-loop
+at-room c = c .before .before .before .before
 
 abbrev at-put : tie.After-struct-known2 Inv-loop μ-loop → tie.After-put-next Inv-loop μ-loop
 at-put c = c .before .before .before .before .before
@@ -50,11 +53,11 @@ room : (c : tie.Joined2 Inv-loop μ-loop) → c .if2 .filled ≤ 40960
 room c = ⊎-elim (λ w. omega (arith, w .4)) (λ w. omega (arith, w .0 .left, w .1)) (c .if2 .came)
 
 so-far : (c : tie.Joined2 Inv-loop μ-loop)
-    → let l = at-loop c in
+    → let l = at-loop (c .before) in
     let a = at-start l .args in
     WrittenSoFar (a .chart .now) (a .orders .now) (l .loop .forward) (l .loop .backward) (l .loop .out) (c .if2 .filled) (l .loop .part)
 so-far c =
-    let w = at-loop c .loop .inv .so-far in
+    let w = at-loop (c .before) .loop .inv .so-far in
     ⊎-elim (λ a. written-more (a .4) w) (λ a. written-same (a .1) w) (c .if2 .came)
 
 -- ---- the needs
@@ -68,20 +71,20 @@ loop-holds c = record {
   so-far = written-first (c .before .before .before .begin .ensures);
 }
 
-part-out : (c : tie.After-row-known Inv-loop μ-loop) → c .before .before .before .before .if2 .filled ≤ 40960
-part-out c = room (c .before .before .before .before)
+part-out : (c : tie.After-row-known Inv-loop μ-loop) → at-room c .if2 .filled ≤ 40960
+part-out c = room (at-room c)
 
 put-next-requires : tie.Need-put-next-requires Inv-loop μ-loop
 put-next-requires c κs =
-    let r = c .before .before .before .before .before in
-    let i = at-loop r .loop .inv in
+    let r = at-room (c .before) in
+    let i = at-loop (r .before) .loop .inv in
     let more = r .before .if1 .taken in
     record { left = more; can = so-far r .next more; path = i .path; room = simp (length-take, length-drop) (omega (arith, room r, i .space)) }
 
 add-filled : tie.Need-add-filled Inv-loop μ-loop
 add-filled c =
     let p = at-put c in
-    record { fits = omega (arith, room (at-room p), put-within (p .put-next .ensures .part .put), c .before .out5 .given) }
+    record { fits = omega (arith, room (at-room (p .before .before)), put-within (p .put-next .ensures .part .put), c .before .out5 .given) }
 
 loop-less : tie.Need-loop-less Inv-loop μ-loop
 loop-less c = let p = at-put c .put-next .ensures in omega (arith, p .further, p .part .within)
@@ -89,13 +92,13 @@ loop-less c = let p = at-put c .put-next .ensures in omega (arith, p .further, p
 -- the bytes are as many as before
 out-length : (c : tie.After-struct-known2 Inv-loop μ-loop)
     → let p = at-put c in
-    let r = at-room p in
-    length (putMid (r .if2 .filled) (65536 - r .if2 .filled) (at-loop r .loop .out) (p .put-next .last .1 .1 .1 .1 .1 .0)) ≡ 65536
+    let r = at-room (p .before .before) in
+    length (putMid (r .if2 .filled) (65536 - r .if2 .filled) (at-loop (r .before) .loop .out) (p .put-next .last .1 .1 .1 .1 .1 .0)) ≡ 65536
 out-length c =
     let p = at-put c in
-    let r = at-room p in
-    same-len-mid (r .if2 .filled) (65536 - r .if2 .filled) (at-loop r .loop .out) (p .put-next .last .1 .1 .1 .1 .1 .0) (c .before .out5 .given)
-    ∙ at-loop r .loop .inv .space
+    let r = at-room (p .before .before) in
+    let l = at-loop (r .before) .loop in
+    same-len-mid (r .if2 .filled) (65536 - r .if2 .filled) (l .out) (p .put-next .last .1 .1 .1 .1 .1 .0) (c .before .out5 .given) ∙ l .inv .space
 
 loop-again : tie.Need-loop-again Inv-loop μ-loop
 loop-again c = record {
@@ -103,17 +106,17 @@ loop-again c = record {
   backward = search needs;
   path = record { words = search needs };
   space = out-length c;
-  so-far = written-next (so-far (at-room (at-put c))) (at-put c .put-next .ensures) _;
+  so-far = written-next (so-far (at-room (at-put c .before .before))) (at-put c .put-next .ensures) _;
 }
 
 -- with the last bytes that are written the sheet is whole
 all-written : (c : tie.After-write-all2 Inv-loop μ-loop)
-    → let l = c .before .before .before .before .before in
+    → let l = at-last (c .before .before .before) in
     let a = at-start l .args in
     sheetText (a .chart .now) (a .orders .now) ≡ l .loop .inv .so-far .written ++ take (l .loop .filled) (l .loop .out)
 all-written c =
     let e = c .before .before .before in
-    written-all (e .before .before .loop .inv .so-far) (omega (arith, e .if1 .left))
+    written-all (at-last e .loop .inv .so-far) (omega (arith, e .if1 .left))
 
 pub run-spec : {M : Type 1} → statement M
 run-spec =
@@ -129,7 +132,7 @@ run-spec =
     (λ c. search needs)
     (λ c. search needs)
     (λ c. search needs)
-    (λ c. c .before .before .before .before .loop .inv .so-far .fits)
+    (λ c. at-loop (c .before .before) .loop .inv .so-far .fits)
     (λ c κs. search needs)
     (λ c. search needs)
     (λ c. search needs)
@@ -143,6 +146,6 @@ run-spec =
     loop-again
     (λ c. search needs)
     (λ c. search needs)
-    (λ c. c .before .before .before .loop .inv .so-far .fits)
+    (λ c. at-last (c .before) .loop .inv .so-far .fits)
     (λ c κs. search needs)
     (λ c. search needs))

@@ -10,28 +10,38 @@ use Rattle.unchecked.proofs.Initialized.{forward-lists, backward-lists,
 use Rattle.unchecked.proofs.initialize.Statement.{statement}
 use Rattle.unchecked.proofs.initialize.Tie as tie
 
--- ---- places: the start, from where the starts are few; both lists are, from where the starts are vertices
+-- ---- places: the start, from where all is lent and where the starts are few; both lists are, from the header; that, from where the starts are vertices;
+-- that, from where the goals are
+
+abbrev start : tie.After-shared-slice-known2 → tie.Start
+start c = c .before .before .before
 
 abbrev at-start : tie.Else1 → tie.Start
-at-start c = c .before .before .before .before
+at-start c = start (c .before)
 
-abbrev at-few : tie.Else3 → tie.Else2
-at-few c = c .before .before .before .before
+abbrev at-few : tie.After-header → tie.Else2
+at-few h = h .before .before
+
+abbrev at-header : tie.Else3 → tie.After-header
+at-header c = c .before .before
+
+abbrev at-starts : tie.Else4 → tie.Else3
+at-starts c = c .before .before
 
 -- ---- where a test was passed
 
-starts-below : (c : tie.Else3) → allBelow (c .before .before .header .result) (at-start (at-few c .before) .args .starts .now) ≡ true
+starts-below : (c : tie.Else3) → allBelow (at-header c .header .result) (at-start (at-few (at-header c) .before) .args .starts .now) ≡ true
 starts-below c = sym (c .before .are-vertices .ensures) ∙ not-false _ (c .if3 .left)
 
 goals-below : (c : tie.Else4)
-    → let b = c .before .before in
-    allBelow (b .before .before .header .result) (at-start (at-few b .before) .args .goals .now) ≡ true
+    → let h = at-header (at-starts c) in
+    allBelow (h .header .result) (at-start (at-few h .before) .args .goals .now) ≡ true
 goals-below c = sym (c .before .are-vertices2 .ensures) ∙ not-false _ (c .if4 .left)
 
 -- ---- the needs
 
 returns : tie.Need-returns
-returns c = rw (c .not-opened .ensures) (starts-over _ _ _ (c .before .before .before .before .before .pre) (c .before .if1 .taken))
+returns c = rw (c .not-opened .ensures) (starts-over _ _ _ (start (c .before .before) .pre) (c .before .if1 .taken))
 
 returns-2 : tie.Need-returns-2
 returns-2 c =
@@ -43,53 +53,63 @@ header-requires c κs = search (needs, at-start (c .before .before) .pre .header
 
 returns-3 : tie.Need-returns-3
 returns-3 c =
-    let h = c .before .before .before in
-    let b = h .before .before in
+    let a = c .before .before in
+    let h = a .before in
+    let b = at-few h in
     rw (c .not-opened3 .ensures)
     (start-past _ _ _ (at-start (b .before) .pre) (b .before .if1 .left) (b .if2 .left) (h .header .ensures)
-    (sym (c .before .before .are-vertices .ensures) ∙ not-true _ (c .before .if3 .taken)))
+    (sym (a .are-vertices .ensures) ∙ not-true _ (c .before .if3 .taken)))
 
 returns-4 : tie.Need-returns-4
 returns-4 c =
-    let v = c .before .before .before in
-    let b = at-few v in
+    let a = c .before .before in
+    let v = a .before in
+    let h = at-header v in
+    let b = at-few h in
     rw (c .not-opened4 .ensures)
-    (goal-past _ _ _ (at-start (b .before) .pre) (b .before .if1 .left) (b .if2 .left) (v .before .before .header .ensures) (starts-below v)
-    (sym (c .before .before .are-vertices2 .ensures) ∙ not-true _ (c .before .if4 .taken)))
+    (goal-past _ _ _ (at-start (b .before) .pre) (b .before .if1 .left) (b .if2 .left) (h .header .ensures) (starts-below v)
+    (sym (a .are-vertices2 .ensures) ∙ not-true _ (c .before .if4 .taken)))
 
 slice-read-if5 : tie.Need-slice-read-if5
-slice-read-if5 c = search (needs, at-start (at-few (c .before .before .before) .before) .pre .header)
+slice-read-if5 c = search (needs, at-start (at-few (at-header (at-starts (c .before))) .before) .pre .header)
 
 open-search-requires : tie.Need-open-search-requires
 open-search-requires c κs =
-    let v = c .before .before .before .before .before in
-    let b = at-few v in
-    can-open (at-start (b .before) .pre) (v .before .before .header .ensures) (b .before .if1 .left) (b .if2 .left) (starts-below v)
+    let v = at-starts (c .before .before .before) in
+    let h = at-header v in
+    let b = at-few h in
+    can-open (at-start (b .before) .pre) (h .header .ensures) (b .before .if1 .left) (b .if2 .left) (starts-below v)
 
 returns-5 : tie.Need-returns-5
 returns-5 c =
-    let g = c .before .before .before .before .before .before in
-    let v = g .before .before in
-    let b = at-few v in
-    let lists = forward-lists (c .before .before .before .before .if5 .taken) _ _ in
-    opened _ _ _ (at-start (b .before) .pre) (b .before .if1 .left) (b .if2 .left) (v .before .before .header .ensures) (starts-below v) (goals-below g) _ _
-    (lists .0) (lists .1) _ _ (c .before .before .open-search .ensures)
+    let o = c .before .before in
+    let way = o .before .before in
+    let g = way .before .before in
+    let v = at-starts g in
+    let h = at-header v in
+    let b = at-few h in
+    let lists = forward-lists (way .if5 .taken) _ _ in
+    opened _ _ _ (at-start (b .before) .pre) (b .before .if1 .left) (b .if2 .left) (h .header .ensures) (starts-below v) (goals-below g) _ _
+    (lists .0) (lists .1) _ _ (o .open-search .ensures)
 
 open-search-requires-2 : tie.Need-open-search-requires-2
 open-search-requires-2 c κs =
     let g = c .before .before .before in
-    let v = g .before .before in
-    let b = at-few v in
-    can-open (at-start (b .before) .pre) (v .before .before .header .ensures) (b .if2 .left) (b .before .if1 .left) (goals-below g)
+    let h = at-header (at-starts g) in
+    let b = at-few h in
+    can-open (at-start (b .before) .pre) (h .header .ensures) (b .if2 .left) (b .before .if1 .left) (goals-below g)
 
 returns-6 : tie.Need-returns-6
 returns-6 c =
-    let g = c .before .before .before .before .before .before in
-    let v = g .before .before in
-    let b = at-few v in
-    let lists = backward-lists _ (c .before .before .before .before .if5 .left) _ _ in
-    opened _ _ _ (at-start (b .before) .pre) (b .before .if1 .left) (b .if2 .left) (v .before .before .header .ensures) (starts-below v) (goals-below g) _ _
-    (lists .0) (lists .1) _ _ (c .before .before .open-search2 .ensures)
+    let o = c .before .before in
+    let way = o .before .before in
+    let g = way .before .before in
+    let v = at-starts g in
+    let h = at-header v in
+    let b = at-few h in
+    let lists = backward-lists _ (way .if5 .left) _ _ in
+    opened _ _ _ (at-start (b .before) .pre) (b .before .if1 .left) (b .if2 .left) (h .header .ensures) (starts-below v) (goals-below g) _ _
+    (lists .0) (lists .1) _ _ (o .open-search2 .ensures)
 
 pub initialize-spec : {M : Type 1} → statement M
 initialize-spec =

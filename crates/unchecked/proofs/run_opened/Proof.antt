@@ -16,44 +16,54 @@ Inv-loop words₀ next₀ waits₀ tickets₀ words next waits tickets = Running
 abbrev μ-loop : tie.MeasureT-loop
 μ-loop words₀ next₀ waits₀ tickets₀ words next waits tickets = maxSteps - waits
 
--- ---- places: a turn of the loop, from where the trees were stepped; its end, from where the node shown is known
+-- ---- places: the loop, from a turn and from its end; a turn, from where the trees were stepped; that, from what they gave back; the end, from where the node
+-- shown is known
+
+abbrev at-loop : tie.Then1 Inv-loop μ-loop → tie.At-loop Inv-loop μ-loop
+at-loop c = c .before .before
+
+abbrev at-last : tie.Else1 Inv-loop μ-loop → tie.At-loop Inv-loop μ-loop
+at-last c = c .before .before
 
 abbrev at-turn : tie.After-step-trees Inv-loop μ-loop → tie.Then1 Inv-loop μ-loop
 at-turn c = c .before .before
+
+abbrev at-step : tie.After-struct-known2 Inv-loop μ-loop → tie.After-step-trees Inv-loop μ-loop
+at-step c = c .before .before .before
 
 abbrev at-end : tie.After-shown-of Inv-loop μ-loop → tie.Else1 Inv-loop μ-loop
 at-end c = c .before
 
 add-tickets : tie.Need-add-tickets Inv-loop μ-loop
 add-tickets c =
-    let k = c .before .before .before in
+    let k = at-step c in
     let t = at-turn k in
-    let g = t .before .before .loop .inv in
+    let g = at-loop t .loop .inv in
     record { fits = omega (arith, running-few g (not-true _ (t .if1 .taken)) (k .step-trees .ensures), g .few, g .within) }
 
 add-waits : tie.Need-add-waits Inv-loop μ-loop
-add-waits c = record { fits = omega (arith, at-turn (c .before .before .before .before) .before .before .loop .inv .within) }
+add-waits c = record { fits = omega (arith, at-loop (at-turn (at-step (c .before))) .loop .inv .within) }
 
 loop-less : tie.Need-loop-less Inv-loop μ-loop
-loop-less c = omega (arith, at-turn (c .before .before .before .before) .before .before .loop .inv .within)
+loop-less c = omega (arith, at-loop (at-turn (at-step (c .before))) .loop .inv .within)
 
 loop-again : tie.Need-loop-again Inv-loop μ-loop
 loop-again c =
-    let k = c .before .before .before .before in
+    let k = at-step (c .before) in
     let t = at-turn k in
-    running-more (t .before .before .loop .inv) (not-true _ (t .if1 .taken)) (k .step-trees .ensures)
+    running-more (at-loop t .loop .inv) (not-true _ (t .if1 .taken)) (k .step-trees .ensures)
 
 status-of-requires : tie.Need-status-of-requires Inv-loop μ-loop
 status-of-requires c κs =
     let s = c .before in
     let e = at-end s in
-    running-shows (e .before .before .loop .inv) (not-false _ (e .if1 .left)) (s .shown-of .ensures)
+    running-shows (at-last e .loop .inv) (not-false _ (e .if1 .left)) (s .shown-of .ensures)
 
 returns : tie.Need-returns Inv-loop μ-loop
 returns c =
     let s = c .before .before in
     let e = at-end s in
-    running-ends (e .before .before .loop .inv) (not-false _ (e .if1 .left)) (s .shown-of .ensures) (c .status-of .result) (c .status-of .ensures)
+    running-ends (at-last e .loop .inv) (not-false _ (e .if1 .left)) (s .shown-of .ensures) (c .status-of .result) (c .status-of .ensures)
 
 pub run-opened-spec : {M : Type 1} → statement M
 run-opened-spec =
@@ -62,12 +72,12 @@ run-opened-spec =
     Inv-loop
     μ-loop
     (λ c. running-first (c .before .pre))
-    (λ c κs. running-can (c .before .before .before .loop .inv))
+    (λ c κs. running-can (at-loop (c .before) .loop .inv))
     add-tickets
     add-waits
     loop-less
     loop-again
-    (λ c κs. can-show (running-can (c .before .before .loop .inv)))
+    (λ c κs. can-show (running-can (at-last c .loop .inv)))
     status-of-requires
-    (λ c. running-length (at-end (c .before .before) .before .before .loop .inv))
+    (λ c. running-length (at-last (at-end (c .before .before)) .loop .inv))
     returns)

@@ -7,10 +7,10 @@ use Rattle.unchecked.proofs.solve.Statement.{statement}
 use Rattle.unchecked.proofs.solve.Tie as tie
 
 returns : tie.Need-returns
-returns c = stands-solves _ _ (c .before .before .before .before .pre) _ (c .before .before .if1 .taken) _ (c .standing .ensures)
+returns c = let i = c .before .before in stands-solves _ _ (i .before .before .pre) _ (i .if1 .taken) _ (c .standing .ensures)
 
 steps-to-answer-requires : tie.Need-steps-to-answer-requires
-steps-to-answer-requires c κs = (c .before .before .before .before .pre, (omega (arith, c .wide .ensures, c .before .before .if1 .left), omega arith))
+steps-to-answer-requires c κs = let i = c .before .before in (i .before .before .pre, (omega (arith, c .wide .ensures, i .if1 .left), omega arith))
 
 returns-2 : tie.Need-returns-2
 returns-2 c = let t = c .before .before in rw (t .before .wide .ensures) at (t .steps-to-answer .ensures)

@@ -7,9 +7,22 @@ use Rattle.order_sheet.proofs.Texts.{lists-lent, ran-search, counts-fit
 use Rattle.order_sheet.proofs.order.put_search.Statement.{statement}
 use Rattle.order_sheet.proofs.order.put_search.Tie as tie
 
--- the start, from where the search was run
+-- ---- places: the start, from where the starts are lent, the goals are lent, the search was run; that, from the answer; that, from where it is shown
+
+abbrev from-starts : tie.After-from2 → tie.Start
+from-starts c = c .before .before .before .before .before .before .before
+
+abbrev from-goals : tie.After-to2 → tie.Start
+from-goals c = from-starts (c .before .before)
+
 abbrev at-start : tie.After-run-search → tie.Start
-at-start c = c .before .before .before .before .before .before .before .before .before .before .before
+at-start c = from-goals (c .before .before)
+
+abbrev at-run : tie.After-answer-of → tie.After-run-search
+at-run c = c .before .before .before
+
+abbrev at-answer : tie.After-put-shown-arg3 → tie.After-answer-of
+at-answer c = c .before .before .before
 
 runs : (c : tie.After-run-search)
     → let a = at-start c .args in
@@ -17,17 +30,17 @@ runs : (c : tie.After-run-search)
 runs c = lists-lent (at-start c .args .starts) (at-start c .args .goals) (c .run-search .ensures)
 
 part-run-search-end : tie.Need-part-run-search-end
-part-run-search-end c = c .before .before .before .before .before .before .before .pre .1 .1 .0 .starts
+part-run-search-end c = from-starts c .pre .1 .1 .0 .starts
 
 part-run-search-end-2 : tie.Need-part-run-search-end-2
-part-run-search-end-2 c = c .before .before .before .before .before .before .before .before .before .pre .1 .1 .0 .goals
+part-run-search-end-2 c = from-goals c .pre .1 .1 .0 .goals
 
 run-search-requires : tie.Need-run-search-requires
-run-search-requires c κs = c .before .before .before .before .before .before .before .before .before .before .pre .1 .1 .1
+run-search-requires c κs = from-goals (c .before) .pre .1 .1 .1
 
 put-shown-requires : tie.Need-put-shown-requires
 put-shown-requires c κs =
-    let r = c .before .before .before .before .before .before in
+    let r = at-run (at-answer c) in
     let p = at-start r .pre in
     let h = runs r in
     let few = counts-fit h in
@@ -36,8 +49,8 @@ put-shown-requires c κs =
 returns : tie.Need-returns
 returns c =
     let k = c .before .before .before .before in
-    let a = k .before .before .before .before in
-    ran-search (runs (a .before .before .before)) _ (a .answer-of .ensures) (k .put-shown .ensures)
+    let a = at-answer (k .before) in
+    ran-search (runs (at-run a)) _ (a .answer-of .ensures) (k .put-shown .ensures)
 
 pub put-search-spec : {M : Type 1} → statement M
 put-search-spec =

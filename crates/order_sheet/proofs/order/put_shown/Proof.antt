@@ -12,16 +12,31 @@ use Rattle.order_sheet.proofs.Texts.{puts-as}
 use Rattle.order_sheet.proofs.order.put_shown.Statement.{statement}
 use Rattle.order_sheet.proofs.order.put_shown.Tie as tie
 
--- ---- places: the start, from where a node is shown; that, from where its path was sought; and from where the moves are known
+-- ---- places: the start, from where it is known if a node is shown; that, from where its path was sought; that, from where it is known if there is one
+
+abbrev start : tie.After-slice-known2 → tie.Start
+start c = c .before .before .before
+
+abbrev at-none : tie.After-put-line-arg2 → tie.After-enum-told
+at-none c = c .before .before .before
 
 abbrev at-start : tie.After-shown → tie.Start
-at-start c = c .before .before .before .before .before
+at-start c = start (c .before .before)
 
 abbrev at-shown : tie.After-retrace-node → tie.After-shown
 at-shown c = c .before .before .before
 
+abbrev sought : tie.After-slice-known4 → tie.After-retrace-node
+sought c = c .before .before
+
+abbrev at-refusal : tie.After-number → tie.After-refusal
+at-refusal c = c .before .before .before
+
 abbrev at-path : tie.After-moves → tie.After-retrace-node
-at-path c = c .before .before .before .before
+at-path c = sought (c .before .before)
+
+abbrev at-moves : tie.After-path3 → tie.After-moves
+at-moves c = c .before .before .before
 
 -- the path has room
 fits : (c : tie.After-moves) → 1 + 2 * c .moves .given .0 .0 ≤ length (at-start (at-shown (at-path c)) .args .path .now)
@@ -33,13 +48,14 @@ fits c =
 
 returns : tie.Need-returns
 returns c =
-    puts-as (sym (ap (shownLine _ _) (c .before .before .before .before .before .before .enum-told .given .1))) (c .before .before .put-line .ensures)
+    let k = c .before .before in
+    puts-as (sym (ap (shownLine _ _) (at-none (k .before) .enum-told .given .1))) (k .put-line .ensures)
 
 retrace-node-requires : tie.Need-retrace-node-requires
 retrace-node-requires c κs = let s = c .before .before in node-shown (s .shown .given .1) (at-start s .pre .1)
 
 put-refusal-requires : tie.Need-put-refusal-requires
-put-refusal-requires c κs = at-start (at-shown (c .before .before .before .before .before .before .before)) .pre .0 .can
+put-refusal-requires c κs = at-start (at-shown (sought (at-refusal c .before .before))) .pre .0 .can
 
 mul-n : tie.Need-mul-n
 mul-n c = omega (arith, fits (c .before), at-start (at-shown (at-path (c .before))) .pre .0 .path .words)
@@ -48,11 +64,11 @@ add-n : tie.Need-add-n
 add-n c = omega (arith, fits (c .before), at-start (at-shown (at-path (c .before))) .pre .0 .path .words)
 
 part-put-line-end-2 : tie.Need-part-put-line-end-2
-part-put-line-end-2 c = omega (arith, fits (c .before .before .before))
+part-put-line-end-2 c = omega (arith, fits (at-moves c))
 
 put-line-requires-2 : tie.Need-put-line-requires-2
 put-line-requires-2 c κs =
-    let m = c .before .before .before .before in
+    let m = at-moves (c .before) in
     let p = at-start (at-shown (at-path m)) .pre .0 in
     record {
       order = omega (arith, p .can .order);
@@ -63,26 +79,29 @@ put-line-requires-2 c κs =
 
 returns-2 : tie.Need-returns-2
 returns-2 c =
-    let r = c .before .before .before .before .before .before .before .before .before .before in
+    let k = c .before .before in
+    let n = k .before in
+    let f = at-refusal n in
+    let r = sought (f .before .before) in
     let s = at-shown r in
     puts-as
-    (short-text _ _ _ _ (r .retrace-node .result) _ (r .retrace-node .ensures) (at-start s .pre .0 .path) _ (c .before .before .before .before .before .before .refusal .given .1)
-    (c .before .before .before .number .ensures)
+    (short-text _ _ _ _ (r .retrace-node .result) _ (r .retrace-node .ensures) (at-start s .pre .0 .path) _ (f .refusal .given .1) (n .number .ensures)
     ∙ sym (ap (shownLine _ _) (s .shown .given .1)))
-    (c .before .before .put-refusal .ensures)
+    (k .put-refusal .ensures)
 
 returns-3 : tie.Need-returns-3
 returns-3 c =
-    let m = c .before .before .before .before .before .before .before in
+    let k = c .before .before in
+    let m = at-moves (k .before .before) in
     let r = at-path m in
     let s = at-shown r in
     puts-as
     (path-text _ _ _ _ (r .retrace-node .result) _ (r .retrace-node .ensures) (at-start s .pre .0 .path) _ _ (m .moves .given .1) ∙ sym (ap (shownLine _ _) (s .shown .given .1)))
-    (c .before .before .put-line2 .ensures)
+    (k .put-line2 .ensures)
 
 put-line-requires : tie.Need-put-line-requires
 put-line-requires c κs =
-    let p = c .before .before .before .before .before .before .before .before .pre .0 in
+    let p = start (at-none c .before .before) .pre .0 in
     record { order = omega (arith, p .can .order); waits = p .waits; tickets = p .tickets; room = omega (arith, p .can .room) }
 
 pub put-shown-spec : {M : Type 1} → statement M
