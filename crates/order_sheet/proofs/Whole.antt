@@ -35,11 +35,13 @@ use Rattle.order_lines.specs.Orders.{orderOf}
 use Rattle.order_lines.specs.Answers.{refusedLine}
 use Rattle.put_text.specs.Puts.{Puts}
 use Rattle.order_sheet.specs.declared.Part.{Part}
-use Rattle.order_sheet.specs.Orders.{refusedOrder}
-use Rattle.order_sheet.specs.Whole.{lentWords, lentSlots, title, Caches, PrintedOrder, printedOrderBy, printedOrder, linesFrom, linesIn, linesText, ordersText, chartText, freshBoth, isOverlong, filesText, sheetText}
-use Rattle.order_sheet.specs.Sheet.{RanBy, RanLine, cachesIn, CanGoOn, PutsPart, RefusedPart, Begins, PutsNext, WrittenSoFar, Parts, no-more, one-more, WritesSheet}
-use Rattle.order_sheet.proofs.Within.{put-within}
-use Rattle.order_sheet.proofs.Called.{called-both, called-after}
+use Rattle.order_run.specs.Orders.{refusedOrder}
+use Rattle.order_run.specs.Lent.{lentWords, lentSlots}
+use Rattle.order_sheet.specs.Whole.{title, Caches, PrintedOrder, printedOrderBy, printedOrder, linesFrom, linesIn, linesText, ordersText, chartText, freshBoth, isOverlong, filesText, sheetText}
+use Rattle.order_run.specs.Run.{RanBy, RanLine}
+use Rattle.order_sheet.specs.Sheet.{cachesIn, CanGoOn, PutsPart, RefusedPart, Begins, PutsNext, WrittenSoFar, Parts, no-more, one-more, WritesSheet}
+use Rattle.order_run.proofs.Within.{put-within}
+use Rattle.order_run.proofs.Called.{called-both, called-after}
 
 -- ---- the lines of a text, line by line
 

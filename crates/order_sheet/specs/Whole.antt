@@ -4,30 +4,21 @@ use mathlib.Core.Bool.{Bool, true, false}
 use mathlib.Core.List.{List, [], _∷_, _++_}
 use Prim.Native.Nat.{ℕ, suc}
 use lib.Dec.{ltb}
-use lib.ListN.{length, take}
+use lib.ListN.{length}
 use Rattle.model.specs.Answers.{Reply, answered, refused}
 use Rattle.model.specs.Graph.{Graph, forward, backward, vertexCount, edgeCount}
 use Rattle.model.specs.Calls.{Cache, opened}
 use Rattle.text.specs.Bytes.{bytes, lineFeed, parted}
 use Rattle.text.specs.Read.{readGraph}
 use Rattle.layout.specs.Layout.{needed}
-use Rattle.order_lines.specs.declared.orders.Numbers.{Numbers}
 use Rattle.order_lines.specs.declared.orders.Form.{Form}
 use Rattle.order_lines.specs.declared.orders.Form.the-variants.{Forward, Backward, Illegal}
 use Rattle.order_lines.specs.declared.orders.Order.{Order}
 use Rattle.order_lines.specs.Orders.{orderOf}
 use Rattle.order_lines.specs.Answers.{refusedLine}
-use Rattle.order_sheet.specs.Orders.{Ordered, ordered, refusedOrder}
-
--- "reads chart.txt and orders.txt, each at most 65,536 bytes, lends each direction 16,000 words with 16 slots"
-abbrev pub maxBytes : ℕ
-maxBytes = 65536
-
-abbrev pub lentWords : ℕ
-lentWords = 16000
-
-abbrev pub lentSlots : ℕ
-lentSlots = 16
+use Rattle.order_run.specs.Lent.{maxBytes, lentWords, lentSlots}
+use Rattle.order_run.specs.Orders.{Ordered, ordered, refusedOrder}
+use Rattle.order_run.specs.Run.{listed}
 
 -- "(order number, answer, total, waits, tickets, run ..)"
 unfoldable pub title : List ℕ
@@ -42,10 +33,6 @@ pub record Caches : Type 0 where
 pub record PrintedOrder : Type 0 where
   pub caches : Caches
   pub text : List ℕ
-
--- the numbers of a list that was read
-abbrev pub listed : Numbers → List ℕ
-listed x = take (x .count) (x .numbers)
 
 abbrev pub onForward : Caches → Ordered → PrintedOrder
 onForward c r = record { caches = record { forward = r .cache; backward = c .backward }; text = r .text }

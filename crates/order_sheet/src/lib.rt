@@ -1,14 +1,13 @@
 // An order sheet: a chart's caches in both directions, and a line on standard output for each order. Its bytes are those of the
 // definition `sheetText`; they are put part by part into bytes lent, and written.
 pub mod files;
-pub mod order;
 
 use model::OpenAnswer;
 use model::number;
-use order::MAX_PATH;
-use order::put_order;
-use order::put_refusal;
 use order_lines::answers::put_refused;
+use order_run::MAX_PATH;
+use order_run::put_order;
+use order_run::put_refusal;
 use put_text::put_bytes;
 use text::bytes::find;
 ghost use mathlib.Core.Path.{_≡_};

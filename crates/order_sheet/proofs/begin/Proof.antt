@@ -7,7 +7,8 @@ use borrow.Author.Needs.{needs}
 use borrow.Author.Tests.{ltb-false}
 use native.Mathlib.Omega.{arith}
 use lib.ListN.{length}
-use Rattle.order_sheet.specs.Whole.{maxBytes, isOverlong, title}
+use Rattle.order_run.specs.Lent.{maxBytes}
+use Rattle.order_sheet.specs.Whole.{isOverlong, title}
 use Rattle.order_sheet.proofs.Whole.{begin-refused, overlong-chart, overlong-orders, chart-refused, begin-opened}
 use Rattle.order_sheet.proofs.begin.Statement.{statement}
 use Rattle.order_sheet.proofs.begin.Tie as tie

@@ -6,7 +6,7 @@ use borrow.Author.Needs.{needs}
 use native.Mathlib.Omega.{arith}
 use lib.ListN.{length}
 use Rattle.text.proofs.LineCuts.{place-within}
-use Rattle.order_sheet.specs.Sheet.{CanPut}
+use Rattle.order_run.specs.Run.{CanPut}
 use Rattle.order_sheet.proofs.Whole.{put-last, put-line}
 use Rattle.order_sheet.proofs.put_next.Statement.{statement}
 use Rattle.order_sheet.proofs.put_next.Tie as tie

@@ -9,9 +9,11 @@ use borrow.Rule.Slice.PartMut.{putMid, same-len-mid}
 use native.Mathlib.Omega.{arith}
 use lib.ListN.{length, take, length-take, length-drop}
 use Rattle.order_sheet.specs.declared.Part.{Part}
-use Rattle.order_sheet.specs.Whole.{lentWords, sheetText}
-use Rattle.order_sheet.specs.Sheet.{PathRoom, WrittenSoFar}
-use Rattle.order_sheet.proofs.Within.{put-within}
+use Rattle.order_run.specs.Lent.{lentWords}
+use Rattle.order_sheet.specs.Whole.{sheetText}
+use Rattle.order_run.specs.Run.{PathRoom}
+use Rattle.order_sheet.specs.Sheet.{WrittenSoFar}
+use Rattle.order_run.proofs.Within.{put-within}
 use Rattle.order_sheet.proofs.Whole.{written-first, written-more, written-same, written-next, written-all}
 use Rattle.order_sheet.proofs.run.Statement.{statement}
 use Rattle.order_sheet.proofs.run.Tie as tie

@@ -17,9 +17,8 @@ ghost use Rattle.model.specs.Answers.{stepReply};
 ghost use Rattle.sound.specs.Facts.{SoundWords};
 ghost use Rattle.unchecked.specs.Shown.{Shows};
 ghost use Rattle.put_text.specs.Puts.{Puts};
-ghost use Rattle.order_sheet.specs.Orders.{answerOf, refusedOrder};
-ghost use Rattle.order_sheet.specs.Whole.{listed};
-ghost use Rattle.order_sheet.specs.Sheet.{CanPut, CanPutShown, InArrays, PathRoom, shownLine, Ran, RanLine, CalledBoth};
+ghost use Rattle.order_run.specs.Orders.{answerOf, refusedOrder};
+ghost use Rattle.order_run.specs.Run.{listed, CanPut, CanPutShown, InArrays, PathRoom, shownLine, Ran, RanLine, CalledBoth};
 
 // The words of a path of 1,023 moves, the most there are among 1,024 vertices.
 pub const MAX_PATH: usize = 2047;

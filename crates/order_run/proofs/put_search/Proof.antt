@@ -2,10 +2,10 @@
 -- Assumes nothing.
 use borrow.Author.Needs.{needs}
 use Rattle.unchecked.specs.Run.{Runs}
-use Rattle.order_sheet.specs.Whole.{listed}
-use Rattle.order_sheet.proofs.Texts.{lists-lent, ran-search, counts-fit, run-shows}
-use Rattle.order_sheet.proofs.order.put_search.Statement.{statement}
-use Rattle.order_sheet.proofs.order.put_search.Tie as tie
+use Rattle.order_run.specs.Run.{listed}
+use Rattle.order_run.proofs.Texts.{lists-lent, ran-search, counts-fit, run-shows}
+use Rattle.order_run.proofs.put_search.Statement.{statement}
+use Rattle.order_run.proofs.put_search.Tie as tie
 
 -- ---- places: the start, from where the starts are lent, the goals are lent, the search was run; that, from the answer; that, from where it is shown
 

@@ -1,8 +1,8 @@
 -- `put_refusal` meets its contract.
 -- Assumes nothing.
 use borrow.Author.Needs.{needs}
-use Rattle.order_sheet.proofs.order.put_refusal.Statement.{statement}
-use Rattle.order_sheet.proofs.order.put_refusal.Tie as tie
+use Rattle.order_run.proofs.put_refusal.Statement.{statement}
+use Rattle.order_run.proofs.put_refusal.Tie as tie
 
 returns : tie.Need-returns
 returns c = c .before .before .put-line .ensures

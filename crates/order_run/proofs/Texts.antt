@@ -34,11 +34,10 @@ use Rattle.order_lines.specs.declared.orders.Order.{Order}
 use Rattle.order_lines.specs.Orders.{orderOf}
 use Rattle.order_lines.specs.Answers.{answerLine}
 use Rattle.put_text.specs.Puts.{Puts}
-use Rattle.order_sheet.specs.Orders.{answerOf, lineFor, shownText, drivenBy, drivenText, orderedBy, Ordered, ordered}
-use Rattle.order_sheet.specs.Whole.{listed}
-use Rattle.order_sheet.specs.Sheet.{pathLine, shownLine, Ran, RanBy, RanLine}
-use Rattle.order_sheet.proofs.Within.{put-within}
-use Rattle.order_sheet.proofs.Sizes.{path-taken}
+use Rattle.order_run.specs.Orders.{answerOf, lineFor, shownText, drivenBy, drivenText, orderedBy, Ordered, ordered}
+use Rattle.order_run.specs.Run.{listed, pathLine, shownLine, Ran, RanBy, RanLine}
+use Rattle.order_run.proofs.Within.{put-within}
+use Rattle.order_run.proofs.Sizes.{path-taken}
 
 pub puts-as : {out t t′ left : List ℕ} {r : ℕ} → t ≡ t′ → Puts out 0 t r left → Puts out 0 t′ r left
 puts-as {out} {left = left} {r = r} e h = subst (λ (x : List ℕ). Puts out 0 x r left) e h

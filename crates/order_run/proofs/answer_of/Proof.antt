@@ -1,8 +1,8 @@
 -- `answer_of` meets its contract, by the answer's case.
 -- Assumes nothing.
 use borrow.Author.Needs.{needs}
-use Rattle.order_sheet.proofs.order.answer_of.Statement.{statement}
-use Rattle.order_sheet.proofs.order.answer_of.Tie as tie
+use Rattle.order_run.proofs.answer_of.Statement.{statement}
+use Rattle.order_run.proofs.answer_of.Tie as tie
 
 returns : tie.Need-returns
 returns c = rw (c .before .before .answer .given .1, c .number .ensures)

@@ -11,8 +11,8 @@ use Rattle.order_lines.specs.declared.orders.Form.{Form}
 use Rattle.order_lines.specs.declared.orders.Form.the-variants.{Forward, Backward, Illegal}
 use Rattle.order_lines.specs.declared.orders.Order.{Order}
 use Rattle.order_lines.specs.Orders.{orderOf}
-use Rattle.order_sheet.specs.Sheet.{Ran, RanBy, RanLine, Called, CalledBoth}
-use Rattle.order_sheet.proofs.Right.{lines-are-right, opens-called}
+use Rattle.order_run.specs.Run.{Ran, RanBy, RanLine, Called, CalledBoth}
+use Rattle.order_run.proofs.Right.{lines-are-right, opens-called}
 
 pub called-both : (fs bs text : List ℕ) {fs′ bs′ : List ℕ} → Opening fs text 0 16 Opened fs′ → Opening bs text 1 16 Opened bs′ → CalledBoth fs′ bs′
 called-both fs bs text {fs′} {bs′} f b =

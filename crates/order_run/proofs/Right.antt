@@ -21,11 +21,11 @@ use Rattle.sound.proofs.Facts.{sound-words-at}
 use Rattle.sound.proofs.Opened.{opened-sound}
 use Rattle.model.specs.Solve.{AfterSteps, stepsFrom, solve, maxSteps}
 use Rattle.model.proofs.Solve.{steps-none, steps-cases, solve-some}
-use Rattle.order_sheet.specs.Orders.{Ordered, orderedBy, ordered, RightLine, RightLines, OrdersAreCalls}
-use Rattle.order_sheet.specs.Sheet.{Called, PrintsRight, LinesAreRight, OpensCalled}
-use Rattle.order_sheet.proofs.Texts.{ordered-is}
-use Rattle.order_sheet.proofs.Bounds.{waits-few}
-use Rattle.order_sheet.proofs.Driven.{Rest, line-from}
+use Rattle.order_run.specs.Orders.{Ordered, orderedBy, ordered, RightLine, RightLines, OrdersAreCalls}
+use Rattle.order_run.specs.Run.{Called, PrintsRight, LinesAreRight, OpensCalled}
+use Rattle.order_run.proofs.Texts.{ordered-is}
+use Rattle.order_run.proofs.Bounds.{waits-few}
+use Rattle.order_run.proofs.Driven.{Rest, line-from}
 
 -- ---- an order
 

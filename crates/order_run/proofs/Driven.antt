@@ -18,8 +18,8 @@ use Rattle.model.proofs.Replies.{answered-refused}
 use Rattle.model.proofs.Solve.{is-waiting, steps-cases}
 use Rattle.model.proofs.Keeps.{KeptCache, kept-sound, accepted-kept, step-keeps}
 use Rattle.order_lines.specs.Answers.{answerLine}
-use Rattle.order_sheet.specs.Orders.{lineFor, shownText, drivenText, textOf, RightLine}
-use Rattle.order_sheet.proofs.Bounds.{moves-few}
+use Rattle.order_run.specs.Orders.{lineFor, shownText, drivenText, textOf, RightLine}
+use Rattle.order_run.proofs.Bounds.{moves-few}
 
 -- ---- the words of a path
 

@@ -3,11 +3,11 @@
 use borrow.Author.Needs.{needs}
 use mathlib.Core.Path.{refl}
 use Rattle.order_lines.specs.declared.orders.Form.the-variants.{Forward, Backward, Illegal}
-use Rattle.order_sheet.specs.Sheet.{InArrays}
-use Rattle.order_sheet.proofs.Within.{order-read}
-use Rattle.order_sheet.proofs.Texts.{ran-line}
-use Rattle.order_sheet.proofs.order.put_order.Statement.{statement}
-use Rattle.order_sheet.proofs.order.put_order.Tie as tie
+use Rattle.order_run.specs.Run.{InArrays}
+use Rattle.order_run.proofs.Within.{order-read}
+use Rattle.order_run.proofs.Texts.{ran-line}
+use Rattle.order_run.proofs.put_order.Statement.{statement}
+use Rattle.order_run.proofs.put_order.Tie as tie
 
 -- ---- places: the start, from where the order was read; that, from where its lists are known; its form, from the search that it asks for
 

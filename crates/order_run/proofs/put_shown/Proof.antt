@@ -6,11 +6,11 @@ use borrow.Author.Needs.{needs}
 use native.Mathlib.Omega.{arith}
 use lib.ListN.{length}
 use Rattle.unchecked.proofs.ShownNode.{node-shown}
-use Rattle.order_sheet.specs.Sheet.{shownLine}
-use Rattle.order_sheet.proofs.Sizes.{path-fits, path-text, short-text}
-use Rattle.order_sheet.proofs.Texts.{puts-as}
-use Rattle.order_sheet.proofs.order.put_shown.Statement.{statement}
-use Rattle.order_sheet.proofs.order.put_shown.Tie as tie
+use Rattle.order_run.specs.Run.{shownLine}
+use Rattle.order_run.proofs.Sizes.{path-fits, path-text, short-text}
+use Rattle.order_run.proofs.Texts.{puts-as}
+use Rattle.order_run.proofs.put_shown.Statement.{statement}
+use Rattle.order_run.proofs.put_shown.Tie as tie
 
 -- ---- places: the start, from where it is known if a node is shown; that, from where its path was sought; that, from where it is known if there is one
 

@@ -26,8 +26,8 @@ use Rattle.layout.specs.Read.{directionOf, readCache}
 use Rattle.unchecked.specs.Retrace.{retraceNodeIf, RetracesNode}
 use Rattle.order_lines.specs.declared.answers.Line.{Line}
 use Rattle.order_lines.specs.Answers.{answerLine}
-use Rattle.order_sheet.specs.Orders.{refusedOrder}
-use Rattle.order_sheet.specs.Sheet.{PathRoom, pathLine}
+use Rattle.order_run.specs.Orders.{refusedOrder}
+use Rattle.order_run.specs.Run.{PathRoom, pathLine}
 
 -- the words of a path that was written first
 pub path-taken : (dir : Direction) (ns : List Node) (n : ℕ) (p : List ℕ) → take (1 + 2 * movesOf ns n) (written (words dir ns n) p) ≡ words dir ns n
