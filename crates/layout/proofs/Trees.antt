@@ -93,7 +93,9 @@ module _ (ws : List ℕ) (m l : ℕ) (t : List ℕ) where
   unfolding treeIn
   tree-closed-length h = part-length (closedWordsAt l) m t h
 
--- header and graph are the same in a and b, the count of trees in use apart: a tree's words hold the same tree
-pub tree-graph : (m l : ℕ) (a b t : List ℕ) → ((j : ℕ) → j < slotsAt m l → j ≢ treeCountAt → getD a j 0 ≡ getD b j 0) → treeIn a m l t ≡ treeIn b m l t
+-- ---- a tree's words beside other words of the cache
+
+-- before the slots the words are the same, the count of trees apart: the tree is the same
+pub tree-graph : (m l : ℕ) (ws left t : List ℕ) → ((j : ℕ) → j ≢ treeCountAt → j < slotsAt m l → getD left j 0 ≡ getD ws j 0) → treeIn left m l t ≡ treeIn ws m l t
 unfolding treeIn
-tree-graph m l a b t same = refl
+tree-graph m l ws left t same = refl

@@ -11,83 +11,83 @@ use lib.ListN.{length, getD}
 use borrow.Author.Tests.{lt-ltb, le-ltb, eq-eqb, ne-eqb}
 use Rattle.model.specs.Lists.{allIn}
 use Rattle.model.specs.Tree.{Node, node, closedAt, evaluation}
-use Rattle.model.specs.Sound.{closerb, begunb}
+use Rattle.model.specs.Sound.{closerb}
 use Rattle.layout.specs.Layout.{nodeEnd, queueAt, closedWordsAt, queuedIn, startIn, usedIn, vertexIn}
 use Rattle.layout.specs.Read.{treeIn}
 use Rattle.layout.proofs.Trees.{tree-nodes, tree-node}
 use Rattle.queue.specs.Queue.{evaluationIn}
 use Rattle.tree.specs.Tree.{treeOf, HasVertex}
 use Rattle.tree.proofs.Closed.{closed-word, node-cost}
-use Rattle.sound.specs.Check.{Waits, RootMarked}
-use Rattle.sound.proofs.Waiting.{mem-waiting, all-below-used, queued-node, none-waits, waiting-first}
+use Rattle.sound.specs.Check.{Waits, RootMarked, BegunIs}
+use Rattle.sound.proofs.Waiting.{mem-waiting, queued-node, none-waits, waiting-first}
 
 -- ---- the closed word of vertex v, where closed words stand from c on
 
 -- the vertex is open
-pub closer-open : (l : ℕ) (t : List ℕ) (v c : ℕ) → c ≡ closedWordsAt l → HasVertex l t v → getD t (c + v) 0 ≡ 0 → true ≡ closerb (treeOf l t) v
-closer-open l t v c at h e = rw (closed-word l t v c h at, e)
+pub closer-open : (ws : List ℕ) (l : ℕ) (t : List ℕ) (v c : ℕ) → c ≡ closedWordsAt l → HasVertex l t v → getD t (c + v) 0 ≡ 0 → true ≡ closerb (treeOf ws l t) v
+closer-open ws l t v c at h e = rw (closed-word l t v c h at ws, e)
 
 module _ (l : ℕ) (ws t : List ℕ) (v c : ℕ) (at : c ≡ closedWordsAt l) (h : HasVertex l t v) (some : getD t (c + v) 0 ≡ 0 → ⊥) where
   -- the number named
   abbrev i : ℕ
   i = getD t (c + v) 0 - 1
 
-  names : closerb (treeOf l t) v
-      ≡ ((ltb i (length (treeOf l t .nodes)) && eqb ((node (treeOf l t .nodes) i) .vertex) v)
-      && allIn (λ j. leb (evaluation (treeOf l t .nodes) i) (evaluation (treeOf l t .nodes) j)) (treeOf l t .waiting))
+  names : closerb (treeOf ws l t) v
+      ≡ ((ltb i (length (treeOf ws l t .nodes)) && eqb ((node (treeOf ws l t .nodes) i) .vertex) v)
+      && allIn (λ j. leb (evaluation (treeOf ws l t .nodes) i) (evaluation (treeOf ws l t .nodes) j)) (treeOf ws l t .waiting))
   names =
-      let e : closedAt (treeOf l t .closed) v ≡ suc i = closed-word l t v c h at ∙ omega arith in
+      let e : closedAt (treeOf ws l t .closed) v ≡ suc i = closed-word l t v c h at ws ∙ omega arith in
       rw e
 
   -- it is no node
-  pub closer-past : usedIn t ≤ i → false ≡ closerb (treeOf l t) v
-  closer-past g = rw (names, tree-nodes _ l t, le-ltb i (usedIn t) g)
+  pub closer-past : usedIn t ≤ i → false ≡ closerb (treeOf ws l t) v
+  closer-past g = rw (names, tree-nodes ws _ l t, le-ltb i (usedIn t) g)
 
   -- it is a node k, whose vertex x is read
   module _ (k x y : ℕ) (n : i < usedIn t) (ek : k ≡ i) (ey : y ≡ vertexIn ws t k) (ex : x ≡ y) where
-    vertex-is : (node (treeOf l t .nodes) i) .vertex ≡ x
+    vertex-is : (node (treeOf ws l t .nodes) i) .vertex ≡ x
     vertex-is =
-        ap (λ (z : Node). z .vertex) (tree-node _ l t i n)
+        ap (λ (z : Node). z .vertex) (tree-node ws _ l t i n)
         ∙ sym (ex ∙ ey ∙ ap (vertexIn ws t) ek)
 
     -- of another vertex
-    pub closer-elsewhere : (x ≡ v → ⊥) → false ≡ closerb (treeOf l t) v
-    closer-elsewhere ne = rw (names, tree-nodes _ l t, lt-ltb i (usedIn t) n, vertex-is, ne-eqb x v ne)
+    pub closer-elsewhere : (x ≡ v → ⊥) → false ≡ closerb (treeOf ws l t) v
+    closer-elsewhere ne = rw (names, tree-nodes ws _ l t, lt-ltb i (usedIn t) n, vertex-is, ne-eqb x v ne)
 
     named : x ≡ v
-        → closerb (treeOf l t) v ≡ allIn (λ j. leb (evaluation (treeOf l t .nodes) i) (evaluation (treeOf l t .nodes) j)) (treeOf l t .waiting)
-    named ev = names ∙ rw (tree-nodes _ l t, lt-ltb i (usedIn t) n, vertex-is, eq-eqb x v ev)
+        → closerb (treeOf ws l t) v ≡ allIn (λ j. leb (evaluation (treeOf ws l t .nodes) i) (evaluation (treeOf ws l t .nodes) j)) (treeOf ws l t .waiting)
+    named ev = names ∙ rw (tree-nodes ws _ l t, lt-ltb i (usedIn t) n, vertex-is, eq-eqb x v ev)
 
     -- of v: no node waits, or the first is compared
-    pub closer-alone : Waits l t → x ≡ v → queuedIn t ≡ 0 → true ≡ closerb (treeOf l t) v
-    closer-alone w ev z = sym (named ev ∙ none-waits _ l t w _ z)
+    pub closer-alone : Waits l ws t → x ≡ v → queuedIn t ≡ 0 → true ≡ closerb (treeOf ws l t) v
+    closer-alone w ev z = sym (named ev ∙ none-waits ws _ l t w _ z)
 
-    pub closer-first : Waits l t → x ≡ v → (queuedIn t ≡ 0 → ⊥) → (q a b : ℕ) → q ≡ queueAt l → a ≡ evaluationIn t i → b ≡ evaluationIn t (getD t q 0)
-        → leb a b ≡ closerb (treeOf l t) v
+    pub closer-first : Waits l ws t → x ≡ v → (queuedIn t ≡ 0 → ⊥) → (q a b : ℕ) → q ≡ queueAt l → a ≡ evaluationIn t i → b ≡ evaluationIn t (getD t q 0)
+        → leb a b ≡ closerb (treeOf ws l t) v
     closer-first w ev more q a b eq ea eb =
-        let cost : evaluation (treeOf l t .nodes) i ≡ a = node-cost _ l t i n ∙ sym ea in
+        let cost : evaluation (treeOf ws l t .nodes) i ≡ a = node-cost ws _ l t i n ∙ sym ea in
         let first : evaluationIn t (getD t (queueAt l) 0) ≡ b = rw (← eq) (sym eb) in
-        sym (named ev ∙ waiting-first _ l t w _ (omega arith) ∙ ap₂ leb cost first)
+        sym (named ev ∙ waiting-first ws _ l t w _ (omega arith) ∙ ap₂ leb cost first)
 
 -- the first queue word, at place q, is a node
-pub first-fits : (l : ℕ) (t : List ℕ) (q : ℕ) → Waits l t → (queuedIn t ≡ 0 → ⊥) → q ≡ queueAt l → nodeEnd (getD t q 0) ≤ length t
-first-fits l t q w more eq =
-    let node : getD t q 0 < usedIn t = rw (eq, ← add-zero (queueAt l)) (queued-node l t w 0 (omega arith)) in
+pub first-fits : (ws : List ℕ) (l : ℕ) (t : List ℕ) (q : ℕ) → Waits l ws t → (queuedIn t ≡ 0 → ⊥) → q ≡ queueAt l → nodeEnd (getD t q 0) ≤ length t
+first-fits ws l t q w more eq =
+    let node : getD t q 0 < usedIn t = rw (eq, ← add-zero (queueAt l)) (queued-node ws l t w 0 (omega arith)) in
     omega (arith, w .areas .used, w .areas .fits)
 
 -- ---- the root
 
 module _ (l : ℕ) (t : List ℕ) (marks : List Bool) (c v : ℕ) (r : RootMarked l t marks) (at : c ≡ closedWordsAt l) (ev : v ≡ startIn t) where
-  start-is : closedAt (treeOf l t .closed) (treeOf l t .start) ≡ getD t (c + v) 0
+  start-is : (ws : List ℕ) → closedAt (treeOf ws l t .closed) (treeOf ws l t .start) ≡ getD t (c + v) 0
   unfolding treeIn
-  start-is = closed-word l t (startIn t) c (r .start) at ∙ rw (← ev)
+  start-is ws = closed-word l t (startIn t) c (r .start) at ws ∙ rw (← ev)
 
   -- its vertex is closed
-  pub begun-closed : (getD t (c + v) 0 ≡ 0 → ⊥) → true ≡ begunb (treeOf l t)
-  begun-closed ne = rw (start-is, ne-eqb (getD t (c + v) 0) 0 ne)
+  pub begun-closed : (getD t (c + v) 0 ≡ 0 → ⊥) → BegunIs l t true
+  begun-closed ne ws = rw (start-is ws, ne-eqb (getD t (c + v) 0) 0 ne)
 
   -- or its mark tells
-  pub begun-waits : getD t (c + v) 0 ≡ 0 → getD marks 0 false ≡ begunb (treeOf l t)
-  begun-waits e =
-      rw (start-is, eq-eqb (getD t (c + v) 0) 0 e)
-      (r .marked .mark 0 (omega arith) ∙ sym (mem-waiting _ l t (all-below-used l t (r .waits)) 0))
+  pub begun-waits : getD t (c + v) 0 ≡ 0 → BegunIs l t (getD marks 0 false)
+  begun-waits e ws =
+      rw (start-is ws, eq-eqb (getD t (c + v) 0) 0 e)
+      (r .marked .mark 0 (omega arith) ∙ sym (mem-waiting ws _ l t (r .nodes) 0))

@@ -63,13 +63,13 @@ module _ {m l : ℕ} {ws t : List ℕ} (can : CanCheck m l ws t) {e : ℕ} (k : 
   closed-small = omega (arith, edge-from (can .held) k (q ∙ q₀), can .held .sized .vertices, can .held .sized .edges)
 
 -- the closed word of vertex v, as the code reads it
-pub closed-word : (m l : ℕ) {a x v : ℕ} (t : List ℕ) → a ≡ closedWordsAt l → x ≡ v → x < m → getD t (a + x) 0 ≡ closedAt (treeIn m l t .closed) v
-closed-word m l t p q h = rw (p, ← q) (sym (tree-closed m l t _ h))
+pub closed-word : (ws : List ℕ) (m l : ℕ) {a x v : ℕ} (t : List ℕ) → a ≡ closedWordsAt l → x ≡ v → x < m → getD t (a + x) 0 ≡ closedAt (treeIn ws m l t .closed) v
+closed-word ws m l t p q h = rw (p, ← q) (sym (tree-closed ws m l t _ h))
 
 -- ---- how many
 
 abbrev leavesClosed : ℕ → ℕ → List ℕ → List ℕ → ℕ → Bool
-leavesClosed m l ws t e = not (eqb (closedAt (treeIn m l t .closed) (from (domainOf m l ws .graph) e)) 0)
+leavesClosed m l ws t e = not (eqb (closedAt (treeIn ws m l t .closed) (from (domainOf m l ws .graph) e)) 0)
 
 -- c of the first n edges leave closed vertices
 pub record CountTo (m l : ℕ) (ws t : List ℕ) (n c : ℕ) : Type 0 where
@@ -82,7 +82,7 @@ unfolding those
 count-none m l ws t = record { place = omega arith; few = omega arith; count = refl }
 
 module _ {m l : ℕ} {ws t : List ℕ} {n c : ℕ} (w : CountTo m l ws t n c) where
-  pub count-all : l ≤ n → c ≡ length (closedEdges (domainOf m l ws .graph) (treeIn m l t .closed))
+  pub count-all : l ≤ n → c ≡ length (closedEdges (domainOf m l ws .graph) (treeIn ws m l t .closed))
   unfolding closedEdges
   count-all e =
       let all : n ≡ edgeCount (domainOf m l ws .graph) = omega (arith, w .place, e, edge-count-in m l ws) in
@@ -93,7 +93,7 @@ module _ {m l : ℕ} {ws t : List ℕ} {n c : ℕ} (w : CountTo m l ws t n c) wh
     next : {d x : ℕ} → d ≡ c + x → x ≡ length (keep (not (eqb (getD t (a + f) 0) 0)) n []) → length (those (leavesClosed m l ws t) (numbers (n + 1))) ≡ d
     next {d} {x} e g =
         let ends = edge-from (can .held) k (q ∙ q₀) in
-        let word = closed-word m l t p (ends .0) (ends .1) in
+        let word = closed-word ws m l t p (ends .0) (ends .1) in
         rw (add-one, numbers-snoc n, those-snoc (leavesClosed m l ws t) (numbers n) n, length-append, ← w .count, ← word) (sym (e ∙ ap (λ (j : ℕ). c + j) g))
 
     pub count-closed : getD t (a + f) 0 ≢ 0 → {d : ℕ} → d ≡ c + 1 → CountTo m l ws t (n + 1) d
@@ -110,13 +110,13 @@ named n p (suc i) e z = omega (arith, ltb-true i n (and-true (ltb i n) (p i) e .
 
 module _ {m l : ℕ} {ws t costs : List ℕ} (h : LeadsOn m l ws t costs) {a x : ℕ} (p : a ≡ closedWordsAt l) (k : x < m) where
   abbrev u : Tree
-  u = treeIn m l t
+  u = treeIn ws m l t
 
   abbrev word : ℕ
   word = getD t (a + x) 0
 
   word-is : word ≡ closedAt (u .closed) x
-  word-is = closed-word m l t p refl k
+  word-is = closed-word ws m l t p refl k
 
   -- x is closed
   module _ (n : word ≢ 0) where
@@ -127,13 +127,13 @@ module _ {m l : ℕ} {ws t costs : List ℕ} (h : LeadsOn m l ws t costs) {a x :
     closer =
         let r = and-true (closedb (λ i. ltb i (length (u .nodes)) && eqb ((node (u .nodes) i) .vertex) x) (closedAt (u .closed) x)) _
         (upto-at (closerb u) m (h .closers) x k) in
-        rw (word-is, ← tree-nodes m l t) (named (length (u .nodes)) (λ i. eqb ((node (u .nodes) i) .vertex) x) (closedAt (u .closed) x) (r .0) (rw word-is at n))
+        rw (word-is, ← tree-nodes ws m l t) (named (length (u .nodes)) (λ i. eqb ((node (u .nodes) i) .vertex) x) (closedAt (u .closed) x) (r .0) (rw word-is at n))
 
     closer-words : nodeEnd (word - 1) ≤ length t
     closer-words = omega (arith, closer, h .hung .counted .used, h .hung .counted .can .len)
 
     closer-cost : evaluation (u .nodes) (word - 1) ≡ evaluationIn t (word - 1)
-    closer-cost = node-cost m l t (word - 1) closer
+    closer-cost = node-cost ws m l t (word - 1) closer
 
     closer-small : evaluationIn t (word - 1) < 9223372036854775808
     closer-small =
@@ -145,7 +145,7 @@ module _ {m l : ℕ} {ws t costs : List ℕ} (h : LeadsOn m l ws t costs) {a x :
       → leb (getD costs x 0) s ≡ reachedb (u .nodes) (u .waiting) (u .closed) x s
   unfolding reachedb
   reached-waits {s} small c =
-      waits-within m l ws t x s small costs (all-true (queueTests l t (queuedIn t)) (h .queue) .0) (h .least) (omega (arith, k, h .hung .counted .can .held .sized .vertices))
+      waits-within m l ws t x s small costs (all-true (queueTests ws l t (queuedIn t)) (h .queue) .0) (h .least) (omega (arith, k, h .hung .counted .can .held .sized .vertices))
       ∙ sym (elim c [ inl z ↦ rw (sym word-is ∙ z) | inr z ↦ rw (is-suc (z .0), closer-cost (z .0), lt-leb (evaluationIn t (word - 1)) s (z .1)) ])
 
   reached-shut : {s : ℕ} → word ≢ 0 → evaluationIn t (word - 1) ≤ s → reachedb (u .nodes) (u .waiting) (u .closed) x s ≡ true
@@ -160,7 +160,7 @@ pub record Sum (m l : ℕ) (ws t costs : List ℕ) (e a o s : ℕ) : Type 0 wher
   words : a ≡ closedWordsAt l
   enters : o < m
   small : s < noCost
-  leads : onwardb (domainOf m l ws) (treeIn m l t) e ≡ reachedb (treeIn m l t .nodes) (treeIn m l t .waiting) (treeIn m l t .closed) o s
+  leads : onwardb (domainOf m l ws) (treeIn ws m l t) e ≡ reachedb (treeIn ws m l t .nodes) (treeIn ws m l t .waiting) (treeIn ws m l t .closed) o s
 
 module _ {m l e : ℕ} {ws t costs : List ℕ} (h : LeadsOn m l ws t costs) (k : e < l) {a f₀ f : ℕ} (p : a ≡ closedWordsAt l) (q₀ : f₀ ≡ fromIn m ws e) (q : f ≡ f₀) where
   leaves : (f ≡ from (domainOf m l ws .graph) e) × (f < m)
@@ -169,7 +169,7 @@ module _ {m l e : ℕ} {ws t costs : List ℕ} (h : LeadsOn m l ws t costs) (k :
   pub onward-place : a + f < length t
   onward-place = closed-there (h .hung .counted .can) k p q₀ q
 
-  pub onward-open : getD t (a + f) 0 ≡ 0 → true ≡ onwardb (domainOf m l ws) (treeIn m l t) e
+  pub onward-open : getD t (a + f) 0 ≡ 0 → true ≡ onwardb (domainOf m l ws) (treeIn ws m l t) e
   onward-open z = sym (rw (← leaves .0, ← word-is h p (leaves .1), z))
 
   module _ (n : getD t (a + f) 0 ≢ 0) where
@@ -211,11 +211,11 @@ module _ {m l : ℕ} {ws t costs : List ℕ} {e a o s : ℕ} (w : Sum m l ws t c
   pub reached-closer : getD t (a + o) 0 ≢ 0 → nodeEnd (getD t (a + o) 0 - 1) ≤ length t
   reached-closer n = closer-words (w .on) (w .words) (w .enters) n
 
-  pub onward-shut : {v : ℕ} → getD t (a + o) 0 ≢ 0 → v ≡ evaluationIn t (getD t (a + o) 0 - 1) → v ≤ s → true ≡ onwardb (domainOf m l ws) (treeIn m l t) e
+  pub onward-shut : {v : ℕ} → getD t (a + o) 0 ≢ 0 → v ≡ evaluationIn t (getD t (a + o) 0 - 1) → v ≤ s → true ≡ onwardb (domainOf m l ws) (treeIn ws m l t) e
   onward-shut n i b = sym (w .leads ∙ reached-shut (w .on) (w .words) (w .enters) n (omega arith))
 
   pub onward-waits : (getD t (a + o) 0 ≡ 0) ⊎ ((getD t (a + o) 0 ≢ 0) × (s < evaluationIn t (getD t (a + o) 0 - 1)))
-      → leb (getD costs o 0) s ≡ onwardb (domainOf m l ws) (treeIn m l t) e
+      → leb (getD costs o 0) s ≡ onwardb (domainOf m l ws) (treeIn ws m l t) e
   onward-waits c = reached-waits (w .on) (w .words) (w .enters) (w .small) c ∙ sym (w .leads)
 
 -- ---- whether each does

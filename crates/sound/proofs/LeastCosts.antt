@@ -33,17 +33,17 @@ lesser-within true x y k = elim (decLe x k) [
 
 module _ (m l : ℕ) (ws t : List ℕ) (v k : ℕ) (small : k < noCost) where
   abbrev within : ℕ → Bool
-  within i = eqb ((node (treeIn m l t .nodes) i) .vertex) v && leb (evaluation (treeIn m l t .nodes) i) k
+  within i = eqb ((node (treeIn ws m l t .nodes) i) .vertex) v && leb (evaluation (treeIn ws m l t .nodes) i) k
 
   least-within : (xs : List ℕ) → allBelow (usedIn t) xs ≡ true → leb (leastCost ws t xs v) k ≡ anyIn within xs
   unfolding leastCost anyIn
   least-within [] e = lt-leb noCost k small
   least-within (x ∷ xs) e =
       let r = and-true (ltb x (usedIn t)) (allBelow (usedIn t) xs) e in
-      rw (tree-node m l t x (ltb-true x (usedIn t) (r .0)), node-evaluation t x, ← least-within xs (r .1))
+      rw (tree-node ws m l t x (ltb-true x (usedIn t) (r .0)), node-evaluation ws t x, ← least-within xs (r .1))
       (lesser-within (eqb (vertexIn ws t x) v) (evaluationIn t x) (leastCost ws t xs v) k)
 
   pub waits-within : (costs : List ℕ) → allBelow (usedIn t) (queueIn l t) ≡ true → LeastCosts costs ws t (queueIn l t) → v < 1024
-      → leb (getD costs v 0) k ≡ anyIn within (treeIn m l t .waiting)
+      → leb (getD costs v 0) k ≡ anyIn within (treeIn ws m l t .waiting)
   waits-within costs below c h =
-      ap (λ (x : ℕ). leb x k) (c .least v h) ∙ least-within (queueIn l t) below ∙ sym (any-waiting m l t below within)
+      ap (λ (x : ℕ). leb x k) (c .least v h) ∙ least-within (queueIn l t) below ∙ sym (any-waiting ws m l t below within)

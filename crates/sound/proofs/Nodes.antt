@@ -50,9 +50,9 @@ module _ {m l : ℕ} {ws t : List ℕ} (h : Counted m l ws t) where
   vertices : vertexCount (graphIn m l ws) ≡ m
   vertices = vertex-count-in m l ws (omega (arith, h .can .held .fits))
 
-  pub root-outside : {v : ℕ} → v ≡ startIn t → m ≤ v → false ≡ allb (rootTests (domainOf m l ws) (treeIn m l t))
+  pub root-outside : {v : ℕ} → v ≡ startIn t → m ≤ v → false ≡ allb (rootTests (domainOf m l ws) (treeIn ws m l t))
   unfolding treeIn
-  root-outside e o = sym (all-fails (rootTests (domainOf m l ws) (treeIn m l t)) 0 (le-ltb (startIn t) (vertexCount (graphIn m l ws)) (omega (arith, vertices))))
+  root-outside e o = sym (all-fails (rootTests (domainOf m l ws) (treeIn ws m l t)) 0 (le-ltb (startIn t) (vertexCount (graphIn m l ws)) (omega (arith, vertices))))
 
   -- v and w are read as the start vertex, c as its cost
   module _ {v w c : ℕ} (ev : v ≡ startIn t) (o : v < m) (ew : w ≡ startIn t) (ec : c ≡ rootCost (directionOf (directionIn ws)) (initialIn ws w)) where
@@ -60,7 +60,7 @@ module _ {m l : ℕ} {ws t : List ℕ} (h : Counted m l ws t) where
     abbrev rootWords : List Bool
     rootWords = ltb (startIn t) m ∷ not (eqb c absent) ∷ eqb (vertexIn ws t 0) (startIn t) ∷ eqb (costIn t 0) c ∷ eqb (parentIn t 0) absent ∷ eqb (edgeIn t 0) absent ∷ []
 
-    words : rootTests (domainOf m l ws) (treeIn m l t) ≡ rootWords
+    words : rootTests (domainOf m l ws) (treeIn ws m l t) ≡ rootWords
     unfolding treeIn
     words = λ i. tests (vertices i) (costs i) (root i)
       where
@@ -75,11 +75,11 @@ module _ {m l : ℕ} {ws t : List ℕ} (h : Counted m l ws t) where
             start-cost m l ws s (omega arith) (omega (arith, h .can .held .fits))
             ∙ sym (ec ∙ ap (λ (x : ℕ). rootCost (directionOf (directionIn ws)) (initialIn ws x)) ew)
 
-        root : node (treeIn m l t .nodes) 0 ≡ nodeIn t 0
-        root = tree-node m l t 0 (h .some-node)
+        root : node (treeIn ws m l t .nodes) 0 ≡ nodeIn ws t 0
+        root = tree-node ws m l t 0 (h .some-node)
 
     abbrev Answered : Bool → Type 0
-    Answered r = r ≡ allb (rootTests (domainOf m l ws) (treeIn m l t))
+    Answered r = r ≡ allb (rootTests (domainOf m l ws) (treeIn ws m l t))
 
     pub root-absent : c ≡ absent → Answered false
     root-absent e = read-fails words 1 (ap not (eq-eqb c absent e))
@@ -108,16 +108,16 @@ module _ {m l i : ℕ} {ws t : List ℕ} (h : Counted m l ws t × (i < usedIn t)
   g = graphIn m l ws
 
   abbrev ns : List Node
-  ns = treeIn m l t .nodes
+  ns = treeIn ws m l t .nodes
 
   abbrev cl : List ℕ
-  cl = treeIn m l t .closed
+  cl = treeIn ws m l t .closed
 
   abbrev Hangs? : Bool → Type 0
   Hangs? r = r ≡ hangsb (domainOf m l ws) ns cl i
 
-  this : node ns i ≡ nodeIn t i
-  this = tree-node m l t i (h .1)
+  this : node ns i ≡ nodeIn ws t i
+  this = tree-node ws m l t i (h .1)
 
   number : (node ns i) .parent ≡ p
   number = ap (λ (x : Node). x .parent) this ∙ sym (rp ∙ rp₀)
@@ -152,8 +152,8 @@ module _ {m l i : ℕ} {ws t : List ℕ} (h : Counted m l ws t × (i < usedIn t)
           tests (number k) (edge k) (edge-count-in m l ws k)
           ((ap (from g) edge ∙ from-word m l ws e oe) k) ((ap (to g) edge ∙ to-word m l ws e oe) k) ((ap (cost g) edge ∙ cost-word m l ws e oe) k) (this k) (parent k)
         where
-          parent : node ns ((node ns i) .parent) ≡ nodeIn t p
-          parent = ap (node ns) number ∙ tree-node m l t p (omega (arith, h .1))
+          parent : node ns ((node ns i) .parent) ≡ nodeIn ws t p
+          parent = ap (node ns) number ∙ tree-node ws m l t p (omega (arith, h .1))
 
           -- by the parent's number, the edge's, the number of edges; the edge's words; the node, the parent
           tests : ℕ → ℕ → ℕ → ℕ → ℕ → ℕ → Node → Node → List Bool
@@ -183,7 +183,7 @@ module _ {m l i : ℕ} {ws t : List ℕ} (h : Counted m l ws t × (i < usedIn t)
             → a ≡ closedWordsAt l → y ≡ f → z ≡ getD t (a + y) 0 → Hangs? (eqb z (p + 1))
         unfolding hangsb
         hang-last rf ru fu rb rv bv xs ra ry rz =
-            ap₂ eqb (rz ∙ closed-word m l t ra (ry ∙ fu ∙ ru) (edge-from (h .0 .can .held) oe (ry ∙ rf) .1)) (add-one p)
+            ap₂ eqb (rz ∙ closed-word ws m l t ra (ry ∙ fu ∙ ru) (edge-from (h .0 .can .held) oe (ry ∙ rf) .1)) (add-one p)
             ∙ read-last hang-words 5 refl (lt-ltb p i op) (lt-ltb e l oe) (read-same rf ru fu) (read-same rb rv bv) (read-same (rx ∙ rx₀) sum xs)
 
 -- the place of the closed word that tells whether the parent closed its vertex
@@ -194,11 +194,11 @@ module _ {m l i : ℕ} {ws t : List ℕ} (h : Counted m l ws t × (i < usedIn t)
 -- the nodes below i pass, node 0 unasked
 pub record HangTo (m l : ℕ) (ws t : List ℕ) (i : ℕ) : Type 0 where
   some : 0 < i
-  passed : upto (λ k. eqb k 0 || hangsb (domainOf m l ws) (treeIn m l t .nodes) (treeIn m l t .closed) k) i ≡ true
+  passed : upto (λ k. eqb k 0 || hangsb (domainOf m l ws) (treeIn ws m l t .nodes) (treeIn ws m l t .closed) k) i ≡ true
 
 module _ (m l : ℕ) (ws t : List ℕ) where
   abbrev hangs : ℕ → Bool
-  hangs i = hangsb (domainOf m l ws) (treeIn m l t .nodes) (treeIn m l t .closed) i
+  hangs i = hangsb (domainOf m l ws) (treeIn ws m l t .nodes) (treeIn ws m l t .closed) i
 
   pub hang-none : HangTo m l ws t 1
   unfolding upto
@@ -212,16 +212,16 @@ module _ (m l : ℕ) (ws t : List ℕ) where
     pub hang-more : {b : Bool} → i < n → b ≡ hangs i → not b ≡ false → HangTo m l ws t (i + 1)
     hang-more {b} h r q = record { some = omega arith; passed = one-more _ i b (w .passed) (asked r) q }
 
-    pub hang-fails : {b : Bool} → i < n → b ≡ hangs i → not b ≡ true → false ≡ hangAllb (domainOf m l ws) (treeIn m l t)
-    hang-fails {b} h r q = one-fails _ (length (treeIn m l t .nodes)) i b (omega (arith, tree-nodes m l t)) (asked r) q
+    pub hang-fails : {b : Bool} → i < n → b ≡ hangs i → not b ≡ true → false ≡ hangAllb (domainOf m l ws) (treeIn ws m l t)
+    hang-fails {b} h r q = one-fails _ (length (treeIn ws m l t .nodes)) i b (omega (arith, tree-nodes ws m l t)) (asked r) q
 
-    pub hang-all : n ≤ i → true ≡ hangAllb (domainOf m l ws) (treeIn m l t)
-    hang-all h = all-passed _ (length (treeIn m l t .nodes)) i (w .passed) (omega (arith, tree-nodes m l t))
+    pub hang-all : n ≤ i → true ≡ hangAllb (domainOf m l ws) (treeIn ws m l t)
+    hang-all h = all-passed _ (length (treeIn ws m l t .nodes)) i (w .passed) (omega (arith, tree-nodes ws m l t))
 
 -- ---- what is so if all pass
 
-pub hung-at : (m l : ℕ) (ws t : List ℕ) → Counted m l ws t → allb (rootTests (domainOf m l ws) (treeIn m l t)) ≡ true
-    → hangAllb (domainOf m l ws) (treeIn m l t) ≡ true → Hung m l ws t
+pub hung-at : (m l : ℕ) (ws t : List ℕ) → Counted m l ws t → allb (rootTests (domainOf m l ws) (treeIn ws m l t)) ≡ true
+    → hangAllb (domainOf m l ws) (treeIn ws m l t) ≡ true → Hung m l ws t
 unfolding treeIn
 hung-at m l ws t h root hang =
     record {
@@ -230,13 +230,13 @@ hung-at m l ws t h root hang =
       vertex = λ k o. omega (
         arith,
         vertices h,
-        ap (λ (x : Node). x .vertex) (tree-node m l t k o),
-        hung-inside d acc (u .nodes) (u .closed) root-vertex hangs k (omega (arith, tree-nodes m l t)),
+        ap (λ (x : Node). x .vertex) (tree-node ws m l t k o),
+        hung-inside d acc (u .nodes) (u .closed) root-vertex hangs k (omega (arith, tree-nodes ws m l t)),
       );
       cost = λ k o. omega (
         arith,
-        ap (λ (x : Node). x .cost) (tree-node m l t k o),
-        hung-cost d acc (u .nodes) (u .closed) root-cost hangs k (omega (arith, tree-nodes m l t)),
+        ap (λ (x : Node). x .cost) (tree-node ws m l t k o),
+        hung-cost d acc (u .nodes) (u .closed) root-cost hangs k (omega (arith, tree-nodes ws m l t)),
       );
     }
   where
@@ -244,7 +244,7 @@ hung-at m l ws t h root hang =
     d = domainOf m l ws
 
     u : Tree
-    u = treeIn m l t
+    u = treeIn ws m l t
 
     acc : Accepted (d .graph)
     acc = h .can .held .accepted

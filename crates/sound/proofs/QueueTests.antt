@@ -38,24 +38,24 @@ below-snoc u x [] = and-true (ltb x u)
 below-snoc u x (y ∷ ys) = ap (λ (b : Bool). ltb y u && b) (below-snoc u x ys) ∙ sym (and-assoc (ltb y u) (allBelow u ys) (ltb x u))
 
 -- heap order of n words, and word by word
-abbrev heapTo : ℕ → List ℕ → ℕ → Bool
-heapTo l t n = heapb (nodesIn (usedIn t) t) (part (queueAt l) n t)
+abbrev heapTo : List ℕ → ℕ → List ℕ → ℕ → Bool
+heapTo ws l t n = heapb (nodesIn ws (usedIn t) t) (part (queueAt l) n t)
 
-abbrev pub orderb : ℕ → List ℕ → ℕ → Bool
-orderb l t i = eqb i 0 || not (precedes (nodesIn (usedIn t) t) (getD t (queueAt l + i) 0) (getD t (queueAt l + (i - 1) / 2) 0))
+abbrev pub orderb : List ℕ → ℕ → List ℕ → ℕ → Bool
+orderb ws l t i = eqb i 0 || not (precedes (nodesIn ws (usedIn t) t) (getD t (queueAt l + i) 0) (getD t (queueAt l + (i - 1) / 2) 0))
 
-heap-words : (l : ℕ) (t : List ℕ) (n : ℕ) → queueAt l + n ≤ length t → heapTo l t n ≡ upto (orderb l t) n
-heap-words l t n fits =
-    rw (part-length (queueAt l) n t fits) (upto-same _ (orderb l t) n (λ i h.
-    ap₂ (λ (a b : ℕ). eqb i 0 || not (precedes (nodesIn (usedIn t) t) a b)) (part-at (queueAt l) n t i h) (part-at (queueAt l) n t ((i - 1) / 2) (omega arith))))
+heap-words : (ws : List ℕ) (l : ℕ) (t : List ℕ) (n : ℕ) → queueAt l + n ≤ length t → heapTo ws l t n ≡ upto (orderb ws l t) n
+heap-words ws l t n fits =
+    rw (part-length (queueAt l) n t fits) (upto-same _ (orderb ws l t) n (λ i h.
+    ap₂ (λ (a b : ℕ). eqb i 0 || not (precedes (nodesIn ws (usedIn t) t) a b)) (part-at (queueAt l) n t i h) (part-at (queueAt l) n t ((i - 1) / 2) (omega arith))))
 
-heap-more : (l : ℕ) (t : List ℕ) (i : ℕ) → queueAt l + i < length t → heapTo l t (i + 1) ≡ (heapTo l t i && orderb l t i)
+heap-more : (ws : List ℕ) (l : ℕ) (t : List ℕ) (i : ℕ) → queueAt l + i < length t → heapTo ws l t (i + 1) ≡ (heapTo ws l t i && orderb ws l t i)
 unfolding upto
-heap-more l t i h =
-    heap-words l t (i + 1) (omega arith)
-    ∙ ap (upto (orderb l t)) (add-one i)
-    ∙ and-comm (orderb l t i) (upto (orderb l t) i)
-    ∙ ap (λ (b : Bool). b && orderb l t i) (sym (heap-words l t i (omega arith)))
+heap-more ws l t i h =
+    heap-words ws l t (i + 1) (omega arith)
+    ∙ ap (upto (orderb ws l t)) (add-one i)
+    ∙ and-comm (orderb ws l t i) (upto (orderb ws l t) i)
+    ∙ ap (λ (b : Bool). b && orderb ws l t i) (sym (heap-words ws l t i (omega arith)))
 
 -- ---- the least cost of a vertex
 
@@ -103,11 +103,11 @@ module _ {costs ws t xs : List ℕ} (s : LeastCosts costs ws t xs) (k : ℕ) {v 
 
 -- ---- the tests of word i, and of those before it
 
-abbrev wordTests : ℕ → List ℕ → ℕ → List Bool
-wordTests l t i =
+abbrev wordTests : List ℕ → ℕ → List ℕ → ℕ → List Bool
+wordTests ws l t i =
     ltb (getD t (queueAt l + i) 0) (usedIn t)
     ∷ not (mem (getD t (queueAt l + i) 0) (part (queueAt l) i t))
-    ∷ orderb l t i
+    ∷ orderb ws l t i
     ∷ []
 
 -- three tests of the words before and three of the word, in pairs or one after the other
@@ -120,21 +120,21 @@ both true false c true y z = refl
 both true false c false y z = refl
 both false b c x y z = refl
 
-tests-more : (l i : ℕ) (t : List ℕ) → queueAt l + i < length t → allb (queueTests l t (i + 1)) ≡ (allb (queueTests l t i) && allb (wordTests l t i))
-tests-more l i t h =
+tests-more : (ws : List ℕ) (l i : ℕ) (t : List ℕ) → queueAt l + i < length t → allb (queueTests ws l t (i + 1)) ≡ (allb (queueTests ws l t i) && allb (wordTests ws l t i))
+tests-more ws l i t h =
     let x : ℕ = getD t (queueAt l + i) 0 in
     let xs : List ℕ = part (queueAt l) i t in
     let more : part (queueAt l) (i + 1) t ≡ xs ++ (x ∷ []) = part-more (queueAt l) i t h in
     let below : allBelow (usedIn t) (part (queueAt l) (i + 1) t) ≡ (allBelow (usedIn t) xs && ltb x (usedIn t)) = ap (allBelow (usedIn t)) more ∙ below-snoc (usedIn t) x xs in
     let new : distinctb (part (queueAt l) (i + 1) t) ≡ (distinctb xs && not (mem x xs)) = ap distinctb more ∙ distinct-snoc x xs in
-    rw (below, new, heap-more l t i h) (both (allBelow (usedIn t) xs) (distinctb xs) (heapTo l t i) (ltb x (usedIn t)) (not (mem x xs)) (orderb l t i))
+    rw (below, new, heap-more ws l t i h) (both (allBelow (usedIn t) xs) (distinctb xs) (heapTo ws l t i) (ltb x (usedIn t)) (not (mem x xs)) (orderb ws l t i))
 
 -- where the tests of m words fail, those of more words do
-fail-on : (l m : ℕ) (t : List ℕ) (n : ℕ) → m ≤ n → queueAt l + n ≤ length t → allb (queueTests l t m) ≡ false → allb (queueTests l t n) ≡ false
-fail-on l m t zero h f e = let z : m ≡ 0 = omega arith in rw z at e
-fail-on l m t (suc n) h f e = elim (ℕ-discrete m (suc n)) [
+fail-on : (ws : List ℕ) (l m : ℕ) (t : List ℕ) (n : ℕ) → m ≤ n → queueAt l + n ≤ length t → allb (queueTests ws l t m) ≡ false → allb (queueTests ws l t n) ≡ false
+fail-on ws l m t zero h f e = let z : m ≡ 0 = omega arith in rw z at e
+fail-on ws l m t (suc n) h f e = elim (ℕ-discrete m (suc n)) [
   | yes z ↦ rw z at e
-  | no ne ↦ rw add-one at (tests-more l n t (omega arith) ∙ ap (λ (b : Bool). b && allb (wordTests l t n)) (fail-on l m t n (omega arith) (omega arith) e))
+  | no ne ↦ rw add-one at (tests-more ws l n t (omega arith) ∙ ap (λ (b : Bool). b && allb (wordTests ws l t n)) (fail-on ws l m t n (omega arith) (omega arith) e))
 ]
 
 -- the words before place i passed; the queue stands from q on, and its word there is n
@@ -145,11 +145,11 @@ module _ {l i q n : ℕ} {ws t : List ℕ} {marks : List Bool} {costs : List ℕ
   word-is : getD t (queueAt l + i) 0 ≡ n
   word-is = sym (word ∙ ap (λ (a : ℕ). getD t (a + i) 0) queue)
 
-  tests : allb (queueTests l t (i + 1)) ≡ allb (wordTests l t i)
-  tests = tests-more l i t fits ∙ ap (λ (b : Bool). b && allb (wordTests l t i)) (turn .passed)
+  tests : allb (queueTests ws l t (i + 1)) ≡ allb (wordTests ws l t i)
+  tests = tests-more ws l i t fits ∙ ap (λ (b : Bool). b && allb (wordTests ws l t i)) (turn .passed)
 
-  fails : (k : ℕ) {ms : List Bool} {cs : List ℕ} → getD (wordTests l t i) k true ≡ false → QueueIs l ws t (i + 1) false ms cs
-  fails k e = record { answer = sym (tests ∙ all-fails (wordTests l t i) k e); tables = λ z. absurd (true≢false (sym z)) }
+  fails : (k : ℕ) {ms : List Bool} {cs : List ℕ} → getD (wordTests ws l t i) k true ≡ false → QueueIs l ws t (i + 1) false ms cs
+  fails k e = record { answer = sym (tests ∙ all-fails (wordTests ws l t i) k e); tables = λ z. absurd (true≢false (sym z)) }
 
   -- u nodes are used, and n is one of them or is not
   module _ {u : ℕ} (used : u ≡ usedIn t) where
@@ -168,23 +168,23 @@ module _ {l i q n : ℕ} {ws t : List ℕ} {marks : List Bool} {costs : List ℕ
       module _ (pos : 0 < i) where
         parent : getD t (q + (i - 1) / 2) 0 < usedIn t
         parent =
-            let r = all-true (queueTests l t i) (turn .passed) in
+            let r = all-true (queueTests ws l t i) (turn .passed) in
             rw queue (below-at t (queueAt l) i (usedIn t) (omega (arith, fits)) (r .0) ((i - 1) / 2) (omega arith))
 
         pub parent-node : nodeAt (getD t (q + (i - 1) / 2) 0) + 4 ≤ length t
         parent-node = omega (arith, parent, turn .words .areas .used, turn .words .areas .fits)
 
-        order : {r : Bool} → r ≡ ltb (key t (getD t (q + i) 0)) (key t (getD t (q + (i - 1) / 2) 0)) → orderb l t i ≡ not r
+        order : {r : Bool} → r ≡ ltb (key t (getD t (q + i) 0)) (key t (getD t (q + (i - 1) / 2) 0)) → orderb ws l t i ≡ not r
         order e =
             rw (ne-eqb i 0 (omega arith))
-            (ap not (precedes-key t (getD t (queueAt l + i) 0) (getD t (queueAt l + (i - 1) / 2) 0) (omega (arith, turn .words .areas .used, turn .words .areas .edges)) (omega (arith, word-is, used)) (rw queue at parent)
+            (ap not (precedes-key ws t (getD t (queueAt l + i) 0) (getD t (queueAt l + (i - 1) / 2) 0) (omega (arith, turn .words .areas .used, turn .words .areas .edges)) (omega (arith, word-is, used)) (rw queue at parent)
             ∙ sym (rw queue at e)))
 
         pub before-parent : {r : Bool} {ms : List Bool} {cs : List ℕ} → r ≡ ltb (key t (getD t (q + i) 0)) (key t (getD t (q + (i - 1) / 2) 0)) → r ≡ true
             → QueueIs l ws t (i + 1) false ms cs
         before-parent e z = fails 2 (order e ∙ ap not z)
 
-        pub after-parent : {r : Bool} → r ≡ ltb (key t (getD t (q + i) 0)) (key t (getD t (q + (i - 1) / 2) 0)) → r ≡ false → orderb l t i ≡ true
+        pub after-parent : {r : Bool} → r ≡ ltb (key t (getD t (q + i) 0)) (key t (getD t (q + (i - 1) / 2) 0)) → r ≡ false → orderb ws l t i ≡ true
         after-parent e z = order e ∙ ap not z
 
       -- vertex and cost of the node
@@ -195,7 +195,7 @@ module _ {l i q n : ℕ} {ws t : List ℕ} {marks : List Bool} {costs : List ℕ
         pub has-cost : v < length costs
         has-cost = omega (arith, small, turn .tables .least .len)
 
-        module _ {c : ℕ} (cost : c ≡ evaluationIn t (getD t (q + i) 0)) (new : getD marks n false ≡ false) (ordered : orderb l t i ≡ true) where
+        module _ {c : ℕ} (cost : c ≡ evaluationIn t (getD t (q + i) 0)) (new : getD marks n false ≡ false) (ordered : orderb ws l t i ≡ true) where
           cost-is : c ≡ evaluationIn t n
           cost-is = cost ∙ ap (evaluationIn t) (sym word)
 
@@ -205,7 +205,7 @@ module _ {l i q n : ℕ} {ws t : List ℕ} {marks : List Bool} {costs : List ℕ
               part-more (queueAt l) i t fits ∙ ap (λ (x : ℕ). part (queueAt l) i t ++ (x ∷ [])) word-is in
               record {
                 answer = sym (tests
-                    ∙ true-given (wordTests l t i) (lt-ltb (getD t (queueAt l + i) 0) (usedIn t) (omega (arith, word-is, used))) (ap not (marked ∙ new)) ordered);
+                    ∙ true-given (wordTests ws l t i) (lt-ltb (getD t (queueAt l + i) 0) (usedIn t) (omega (arith, word-is, used))) (ap not (marked ∙ new)) ordered);
                 tables = λ z. record { marked = rw more (marked-more (turn .tables .marked) (omega (arith, turn .words .areas .used, turn .words .areas .edges))); least = rw more s };
               }
 
@@ -216,8 +216,8 @@ module _ {l i q n : ℕ} {ws t : List ℕ} {marks : List Bool} {costs : List ℕ
           not-lower more = passes (least-kept (turn .tables .least) n (wide ∙ vertex) cost-is small more)
 
 -- the first word has no parent
-pub first-word : (l i : ℕ) (t : List ℕ) → i ≤ 0 → orderb l t i ≡ true
-first-word l i t h = true-or-left (eqb i 0) _ (eq-eqb i 0 (omega arith))
+pub first-word : (ws : List ℕ) (l i : ℕ) (t : List ℕ) → i ≤ 0 → orderb ws l t i ≡ true
+first-word ws l i t h = true-or-left (eqb i 0) _ (eq-eqb i 0 (omega arith))
 
 -- ---- all words in turn: i of them passed
 
@@ -231,7 +231,7 @@ module _ {l i n : ℕ} {ws t : List ℕ} (words : QueueWords l ws t) (queued : n
 
   pub queue-fails : {r : Bool} {ms ks : List Bool} {cs ds : List ℕ} → QueueIs l ws t (i + 1) r ms cs → not r ≡ true → QueueIs l ws t (queuedIn t) false ks ds
   queue-fails {r} q e = record {
-    answer = sym (fail-on l (i + 1) t (queuedIn t) (omega arith) (omega (arith, words .areas .queued, words .areas .fits)) (sym (q .answer) ∙ not-true r e));
+    answer = sym (fail-on ws l (i + 1) t (queuedIn t) (omega arith) (omega (arith, words .areas .queued, words .areas .fits)) (sym (q .answer) ∙ not-true r e));
     tables = λ z. absurd (true≢false (sym z));
   }
 

@@ -27,26 +27,26 @@ use Rattle.layout.specs.Layout.{usedIn}
 
 -- ---- the waiting list
 
-module _ (m l : ℕ) (t : List ℕ) where
-  waiting-nodes : allIn (λ i. ltb i (length (treeIn m l t .nodes))) (treeIn m l t .waiting) ≡ true
+module _ (ws : List ℕ) (m l : ℕ) (t : List ℕ) where
+  waiting-nodes : allIn (λ i. ltb i (length (treeIn ws m l t .nodes))) (treeIn ws m l t .waiting) ≡ true
   unfolding treeIn
-  waiting-nodes = at-all-in _ (treeIn m l t .waiting) (λ i k.
-      lt-ltb i _ (omega (arith, tree-nodes m l t, numbers-mem (usedIn t) i (those-mem (λ n. mem n (queueIn l t)) (numbers (usedIn t)) i k .0))))
+  waiting-nodes = at-all-in _ (treeIn ws m l t .waiting) (λ i k.
+      lt-ltb i _ (omega (arith, tree-nodes ws m l t, numbers-mem (usedIn t) i (those-mem (λ n. mem n (queueIn l t)) (numbers (usedIn t)) i k .0))))
 
-  waiting-ascends : ascendsb 0 (treeIn m l t .waiting) ≡ true
+  waiting-ascends : ascendsb 0 (treeIn ws m l t .waiting) ≡ true
   unfolding treeIn
-  waiting-ascends = at-ascends 0 (treeIn m l t .waiting) (those-ascends (λ n. mem n (queueIn l t)) 0 (numbers (usedIn t)) (up-ascends (usedIn t) 0))
+  waiting-ascends = at-ascends 0 (treeIn ws m l t .waiting) (those-ascends (λ n. mem n (queueIn l t)) 0 (numbers (usedIn t)) (up-ascends (usedIn t) 0))
 
 -- ---- the tests
 
 -- as the check makes them
-abbrev treeTests : Domain → ℕ → ℕ → List ℕ → List Bool
-treeTests d m l t =
-    let u = treeIn m l t in
+abbrev treeTests : Domain → List ℕ → ℕ → ℕ → List ℕ → List Bool
+treeTests d ws m l t =
+    let u = treeIn ws m l t in
     allb (countTests l t)
     ∷ allb (rootTests d u)
     ∷ hangAllb d u
-    ∷ allb (tablesTests d m l t)
+    ∷ allb (tablesTests d ws m l t)
     ∷ allb (spareTests l t)
     ∷ []
 
@@ -55,60 +55,60 @@ module _ (m l : ℕ) (ws t : List ℕ) (h : CanCheck m l ws t) where
   d = domainOf m l ws
 
   abbrev u : Tree
-  u = treeIn m l t
+  u = treeIn ws m l t
 
   closed-length : length (u .closed) ≡ m
-  closed-length = tree-closed-length m l t (omega (arith, h .len))
+  closed-length = tree-closed-length ws m l t (omega (arith, h .len))
 
   closers : upto (closerb u) (length (u .closed)) ≡ upto (closerb u) m
   closers = ap (upto (closerb u)) closed-length
 
   some : ltb 0 (length (u .nodes)) ≡ ltb 0 (usedIn t)
-  some = ap (ltb 0) (tree-nodes m l t)
+  some = ap (ltb 0) (tree-nodes ws m l t)
 
-  passes : (formedb l t && soundb d u) ≡ true → allb (treeTests d m l t) ≡ true
+  passes : (formedb ws l t && soundb d u) ≡ true → allb (treeTests d ws m l t) ≡ true
   unfolding formedb soundb
   passes e =
-      let r = and-true (formedb l t) (soundb d u) e in
-      let f = all-true (formTests l t) (r .0) in
+      let r = and-true (formedb ws l t) (soundb d u) e in
+      let f = all-true (formTests ws l t) (r .0) in
       let s = all-true (soundTests d u) (r .1) in
       let closed = s .1 .1 .1 .1 .1 in
-      true-given (treeTests d m l t)
+      true-given (treeTests d ws m l t)
       (true-given (countTests l t) (sym some ∙ s .0) (f .0) (f .1 .0))
       (s .1 .0)
       (s .1 .1 .0)
-      (true-given (tablesTests d m l t) (f .1 .1 .0) (sym closers ∙ closed .0) (closed .1 .0) (closed .1 .1 .0) (closed .1 .1 .1 .0))
+      (true-given (tablesTests d ws m l t) (f .1 .1 .0) (sym closers ∙ closed .0) (closed .1 .0) (closed .1 .1 .0) (closed .1 .1 .1 .0))
       (f .1 .1 .1 .0)
 
-  passed : allb (treeTests d m l t) ≡ true → (formedb l t && soundb d u) ≡ true
+  passed : allb (treeTests d ws m l t) ≡ true → (formedb ws l t && soundb d u) ≡ true
   unfolding formedb soundb
   passed e =
-      let r = all-true (treeTests d m l t) e in
+      let r = all-true (treeTests d ws m l t) e in
       let c = all-true (countTests l t) (r .0) in
-      let tables = all-true (tablesTests d m l t) (r .1 .1 .1 .0) in
-      true-and (formedb l t) (soundb d u)
-      (true-given (formTests l t) (c .1 .0) (c .1 .1 .0) (tables .0) (r .1 .1 .1 .1 .0))
+      let tables = all-true (tablesTests d ws m l t) (r .1 .1 .1 .0) in
+      true-and (formedb ws l t) (soundb d u)
+      (true-given (formTests ws l t) (c .1 .0) (c .1 .1 .0) (tables .0) (r .1 .1 .1 .1 .0))
       (true-given (soundTests d u)
       (some ∙ c .0)
       (r .1 .0)
       (r .1 .1 .0)
-      (true-given (waitingTests u) (waiting-nodes m l t) (waiting-ascends m l t))
+      (true-given (waitingTests u) (waiting-nodes ws m l t) (waiting-ascends ws m l t))
       (eq-eqb _ _ (closed-length ∙ sym (vertex-count-in m l ws (omega (arith, h .held .fits)))))
       (closers ∙ tables .1 .0)
       (tables .1 .1 .0)
       (tables .1 .1 .1 .0)
       (tables .1 .1 .1 .1 .0))
 
-  tree-tests : treeWordsb d m l t ≡ allb (treeTests d m l t)
+  tree-tests : treeWordsb d ws m l t ≡ allb (treeTests d ws m l t)
   unfolding treeWordsb
   tree-tests = same-tests _ _ passes passed
 
 -- ---- what each answer says, in turn
 
 -- test k fails
-pub tree-fails : (k : ℕ) {m l : ℕ} {ws t : List ℕ} → CanCheck m l ws t → {a : Bool} → a ≡ getD (treeTests (domainOf m l ws) m l t) k true → not a ≡ true
-    → false ≡ treeWordsb (domainOf m l ws) m l t
-tree-fails k {m} {l} {ws} {t} h {a} e n = sym (tree-tests m l ws t h ∙ all-fails (treeTests (domainOf m l ws) m l t) k (sym e ∙ not-true a n))
+pub tree-fails : (k : ℕ) {m l : ℕ} {ws t : List ℕ} → CanCheck m l ws t → {a : Bool} → a ≡ getD (treeTests (domainOf m l ws) ws m l t) k true → not a ≡ true
+    → false ≡ treeWordsb (domainOf m l ws) ws m l t
+tree-fails k {m} {l} {ws} {t} h {a} e n = sym (tree-tests m l ws t h ∙ all-fails (treeTests (domainOf m l ws) ws m l t) k (sym e ∙ not-true a n))
 
 module _ {m l : ℕ} {ws t : List ℕ} (h : CanCheck m l ws t) where
   module _ {a : Bool} (ea : a ≡ allb (countTests l t)) (pa : not a ≡ false) where
@@ -120,12 +120,12 @@ module _ {m l : ℕ} {ws t : List ℕ} (h : CanCheck m l ws t) where
     pub has-areas : Areas l t
     has-areas = areas counted
 
-    module _ {b c : Bool} (eb : b ≡ allb (rootTests (domainOf m l ws) (treeIn m l t))) (pb : not b ≡ false) (ec : c ≡ hangAllb (domainOf m l ws) (treeIn m l t)) (pc : not c ≡ false) where
+    module _ {b c : Bool} (eb : b ≡ allb (rootTests (domainOf m l ws) (treeIn ws m l t))) (pb : not b ≡ false) (ec : c ≡ hangAllb (domainOf m l ws) (treeIn ws m l t)) (pc : not c ≡ false) where
       pub hung : Hung m l ws t
       hung = hung-at m l ws t counted (sym eb ∙ not-false b pb) (sym ec ∙ not-false c pc)
 
-      pub tree-last : {x y : Bool} → x ≡ allb (tablesTests (domainOf m l ws) m l t) → not x ≡ false → y ≡ allb (spareTests l t) → y ≡ treeWordsb (domainOf m l ws) m l t
+      pub tree-last : {x y : Bool} → x ≡ allb (tablesTests (domainOf m l ws) ws m l t) → not x ≡ false → y ≡ allb (spareTests l t) → y ≡ treeWordsb (domainOf m l ws) ws m l t
       tree-last {x} ex px ey =
           ey
-          ∙ read-last {cs = treeTests (domainOf m l ws) m l t} refl 4 refl (sym ea ∙ not-false a pa) (sym eb ∙ not-false b pb) (sym ec ∙ not-false c pc) (sym ex ∙ not-false x px)
+          ∙ read-last {cs = treeTests (domainOf m l ws) ws m l t} refl 4 refl (sym ea ∙ not-false a pa) (sym eb ∙ not-false b pb) (sym ec ∙ not-false c pc) (sym ex ∙ not-false x px)
           ∙ sym (tree-tests m l ws t h)

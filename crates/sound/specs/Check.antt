@@ -7,7 +7,7 @@ use Prim.Native.Nat.{ℕ, _+_, _*_, _<_, _≤_, min}
 use lib.Dec.{eqb, leb, ltb}
 use lib.ListN.{length, getD}
 use Rattle.model.specs.Limits.{vertexLimit, edgeLimit, costLimit, slotLimit}
-use Rattle.model.specs.Lists.{mem, allb, upto}
+use Rattle.model.specs.Lists.{mem, allBelow, allb, upto}
 use Rattle.model.specs.Graph.{Domain}
 use Rattle.model.specs.Sound.{closerb, fewb, begunb, onwardAllb, starts, distinctb}
 use Rattle.layout.specs.Layout.{costIn, Sized, headerWords, placesAt, queueAt, closedWordsAt, treeWords, slotAt, part, edgesIn, queuedIn, startIn, usedIn, vertexIn, verticesIn}
@@ -16,7 +16,7 @@ use Rattle.layout.specs.Sound.{headerTests, graphTests, queueIn, treeWordsb, qu
 use Rattle.layout.specs.Held.{Held}
 use Rattle.layout.specs.Slots.{slotWords}
 use Rattle.queue.specs.Queue.{evaluationIn}
-use Rattle.tree.specs.Tree.{HasVertex}
+use Rattle.tree.specs.Tree.{treeOf, HasVertex}
 
 -- the words of a slot, beside those of its cache
 pub record CanCheck (m l : ℕ) (ws t : List ℕ) : Type 0 where
@@ -90,38 +90,44 @@ pub record QueueTables (l : ℕ) (ws t : List ℕ) (n : ℕ) (marks : List Bool)
 pub record QueueTurn (l : ℕ) (ws t : List ℕ) (i : ℕ) (marks : List Bool) (costs : List ℕ) : Type 0 where
   pub words : QueueWords l ws t
   pub place : i < queuedIn t
-  pub passed : allb (queueTests l t i) ≡ true
+  pub passed : allb (queueTests ws l t i) ≡ true
   pub tables : QueueTables l ws t i marks costs
 
 -- the answer for n queue words, and the tables if it is yes
 pub record QueueIs (l : ℕ) (ws t : List ℕ) (n : ℕ) (r : Bool) (marks : List Bool) (costs : List ℕ) : Type 0 where
-  pub answer : r ≡ allb (queueTests l t n)
+  pub answer : r ≡ allb (queueTests ws l t n)
   pub tables : r ≡ true → QueueTables l ws t n marks costs
 
 -- ---- closed words and edges
 
 -- a tree's words whose queue words passed
-pub record Waits (l : ℕ) (t : List ℕ) : Type 0 where
+pub record Waits (l : ℕ) (ws t : List ℕ) : Type 0 where
   pub areas : Areas l t
-  pub queue : allb (queueTests l t (queuedIn t)) ≡ true
+  pub queue : allb (queueTests ws l t (queuedIn t)) ≡ true
 
+-- queue words are nodes and are marked, and the start is a vertex
 pub record RootMarked (l : ℕ) (t : List ℕ) (marks : List Bool) : Type 0 where
-  pub waits : Waits l t
+  pub areas : Areas l t
+  pub nodes : allBelow (usedIn t) (queueIn l t) ≡ true
   pub start : HasVertex l t (startIn t)
   pub marked : Marked marks nodeLimit (queueIn l t)
+
+-- for the words ws of any cache: the root's vertex is closed or the root waits
+abbrev pub BegunIs : ℕ → List ℕ → Bool → Type 0
+BegunIs l t r = (ws : List ℕ) → r ≡ begunb (treeOf ws l t)
 
 -- queue words and closed words passed, and the table is filled
 pub record LeadsOn (m l : ℕ) (ws t costs : List ℕ) : Type 0 where
   pub hung : Hung m l ws t
-  pub queue : allb (queueTests l t (queuedIn t)) ≡ true
-  pub closers : upto (closerb (treeIn m l t)) m ≡ true
+  pub queue : allb (queueTests ws l t (queuedIn t)) ≡ true
+  pub closers : upto (closerb (treeIn ws m l t)) m ≡ true
   pub least : LeastCosts costs ws t (queueIn l t)
 
 -- the clauses for which the tables are there
-abbrev pub tablesTests : Domain → ℕ → ℕ → List ℕ → List Bool
-tablesTests d m l t =
-    let u = treeIn m l t in
-    allb (queueTests l t (queuedIn t))
+abbrev pub tablesTests : Domain → List ℕ → ℕ → ℕ → List ℕ → List Bool
+tablesTests d ws m l t =
+    let u = treeIn ws m l t in
+    allb (queueTests ws l t (queuedIn t))
     ∷ upto (closerb u) m
     ∷ fewb d u
     ∷ begunb u
@@ -153,4 +159,4 @@ unfolding upto distinctb treeWordsb
 treesb used ws =
     let m = verticesIn ws in
     let l = edgesIn ws in
-    distinctb (starts (readTrees m l used ws)) && upto (λ i. treeWordsb (domainOf m l ws) m l (slotWords m l i ws)) used
+    distinctb (starts (readTrees m l used ws)) && upto (λ i. treeWordsb (domainOf m l ws) ws m l (slotWords m l i ws)) used

@@ -8,12 +8,12 @@ ghost use Prim.Native.Nat.{_+_, _<_, _≤_};
 ghost use lib.ListN.{length, getD, replicate};
 ghost use Rattle.model.specs.Limits.{vertexLimit, edgeLimit};
 ghost use Rattle.model.specs.Lists.{allb, upto};
-ghost use Rattle.model.specs.Sound.{hangsb, closedEdges, rootTests, hangAllb, closerb, begunb, onwardb};
+ghost use Rattle.model.specs.Sound.{hangsb, closedEdges, rootTests, hangAllb, closerb, onwardb};
 ghost use Rattle.layout.specs.Layout.{closedWordsAt, usedIn, queuedIn};
 ghost use Rattle.layout.specs.Read.{treeIn, domainOf};
 ghost use Rattle.layout.specs.Sound.{zerosb, treeWordsb, spareTests};
 ghost use Rattle.tree.specs.Tree.{treeOf, HasVertex};
-ghost use Rattle.sound.specs.Check.{CanCheck, countTests, Counted, Hung, QueueWords, QueueTurn, QueueIs, Waits, RootMarked, LeadsOn, tablesTests, Areas, nodeLimit, noCost};
+ghost use Rattle.sound.specs.Check.{CanCheck, countTests, Counted, Hung, QueueWords, QueueTurn, QueueIs, Waits, RootMarked, BegunIs, LeadsOn, tablesTests, Areas, nodeLimit, noCost};
 
 // A tree has at most one node more than there are edges.
 const MAX_NODES: usize = 1 + MAX_EDGES;
@@ -23,7 +23,7 @@ const NO_COST: u64 = 18446744073709551615;
 
 pub fn tree_is_sound(words: &[u32], vertices: usize, edges: usize, tree: &[u32]) -> bool
     requires { ⌜ CanCheck vertices edges (now words) (now tree) ⌝ }
-    ensures { λ r. ⌜ r ≡ treeWordsb (domainOf vertices edges (now (words .entry))) vertices edges (now (tree .entry)) ⌝ }
+    ensures { λ r. ⌜ r ≡ treeWordsb (domainOf vertices edges (now (words .entry))) (now (words .entry)) vertices edges (now (tree .entry)) ⌝ }
 {
     if !counts_are_sound(tree, edges) {
         return false;
@@ -67,7 +67,7 @@ fn counts_are_sound(tree: &[u32], edges: usize) -> bool
 // Node 0 is the root.
 fn root_is_sound(words: &[u32], vertices: usize, edges: usize, tree: &[u32]) -> bool
     requires { ⌜ Counted vertices edges (now words) (now tree) ⌝ }
-    ensures { λ r. ⌜ r ≡ allb (rootTests (domainOf vertices edges (now (words .entry))) (treeIn vertices edges (now (tree .entry)))) ⌝ }
+    ensures { λ r. ⌜ r ≡ allb (rootTests (domainOf vertices edges (now (words .entry))) (treeIn (now (words .entry)) vertices edges (now (tree .entry)))) ⌝ }
 {
     let start = tree[layout::START];
     if vertices <= wide(start) {
@@ -92,7 +92,7 @@ fn root_is_sound(words: &[u32], vertices: usize, edges: usize, tree: &[u32]) -> 
 // Each other node hangs on a closed one.
 fn nodes_hang(words: &[u32], vertices: usize, edges: usize, tree: &[u32]) -> bool
     requires { ⌜ Counted vertices edges (now words) (now tree) ⌝ }
-    ensures { λ r. ⌜ r ≡ hangAllb (domainOf vertices edges (now (words .entry))) (treeIn vertices edges (now (tree .entry))) ⌝ }
+    ensures { λ r. ⌜ r ≡ hangAllb (domainOf vertices edges (now (words .entry))) (treeIn (now (words .entry)) vertices edges (now (tree .entry))) ⌝ }
 {
     let used = wide(tree[layout::NODES]);
     let mut i = 1;
@@ -108,7 +108,7 @@ fn nodes_hang(words: &[u32], vertices: usize, edges: usize, tree: &[u32]) -> boo
 // Node i hangs by an edge on the node that closed the vertex the edge leaves, a lower number.
 fn node_hangs(words: &[u32], vertices: usize, edges: usize, tree: &[u32], i: usize) -> bool
     requires { ⌜ Counted vertices edges (now words) (now tree) × (i < usedIn (now tree)) ⌝ }
-    ensures { λ r. ⌜ r ≡ hangsb (domainOf vertices edges (now (words .entry))) (treeIn vertices edges (now (tree .entry)) .nodes) (treeIn vertices edges (now (tree .entry)) .closed) i ⌝ }
+    ensures { λ r. ⌜ r ≡ hangsb (domainOf vertices edges (now (words .entry))) (treeIn (now (words .entry)) vertices edges (now (tree .entry)) .nodes) (treeIn (now (words .entry)) vertices edges (now (tree .entry)) .closed) i ⌝ }
 {
     let parent = wide(layout::node_parent(tree, i));
     if i <= parent {
@@ -146,7 +146,7 @@ fn queue_and_edges_are_sound(
     costs: &mut [u64],
 ) -> bool
     requires { ⌜ Hung vertices edges (now words) (now tree) × ((now marks ≡ replicate nodeLimit false) × (now costs ≡ replicate vertexLimit noCost)) ⌝ }
-    ensures { λ r. ⌜ r ≡ allb (tablesTests (domainOf vertices edges (now (words .entry))) vertices edges (now (tree .entry))) ⌝ }
+    ensures { λ r. ⌜ r ≡ allb (tablesTests (domainOf vertices edges (now (words .entry))) (now (words .entry)) vertices edges (now (tree .entry))) ⌝ }
 {
     if !queue_is_sound(words, tree, edges, marks, costs) {
         return false;
@@ -225,8 +225,8 @@ fn queue_word_is_sound(
 
 // Each closed word names a node of its vertex that costs no more than any waiting node, so no more than the first.
 fn closed_are_sound(words: &[u32], tree: &[u32], vertices: usize, edges: usize) -> bool
-    requires { ⌜ Waits edges (now tree) × (closedWordsAt edges + vertices ≤ length (now tree)) ⌝ }
-    ensures { λ r. ⌜ r ≡ upto (closerb (treeOf edges (now (tree .entry)))) vertices ⌝ }
+    requires { ⌜ Waits edges (now words) (now tree) × (closedWordsAt edges + vertices ≤ length (now tree)) ⌝ }
+    ensures { λ r. ⌜ r ≡ upto (closerb (treeOf (now (words .entry)) edges (now (tree .entry)))) vertices ⌝ }
 {
     let mut v = 0;
     while v < vertices {
@@ -239,8 +239,8 @@ fn closed_are_sound(words: &[u32], tree: &[u32], vertices: usize, edges: usize) 
 }
 
 fn closed_word_is_sound(words: &[u32], tree: &[u32], edges: usize, vertex: usize) -> bool
-    requires { ⌜ Waits edges (now tree) × HasVertex edges (now tree) vertex ⌝ }
-    ensures { λ r. ⌜ r ≡ closerb (treeOf edges (now (tree .entry))) vertex ⌝ }
+    requires { ⌜ Waits edges (now words) (now tree) × HasVertex edges (now tree) vertex ⌝ }
+    ensures { λ r. ⌜ r ≡ closerb (treeOf (now (words .entry)) edges (now (tree .entry))) vertex ⌝ }
 {
     let word = tree[layout::closed_at(edges) + vertex];
     if word == 0 {
@@ -265,7 +265,7 @@ fn closed_word_is_sound(words: &[u32], tree: &[u32], edges: usize, vertex: usize
 // How many edges leave closed vertices.
 fn closed_edges(words: &[u32], vertices: usize, edges: usize, tree: &[u32]) -> usize
     requires { ⌜ CanCheck vertices edges (now words) (now tree) ⌝ }
-    ensures { λ r. ⌜ r ≡ length (closedEdges (domainOf vertices edges (now (words .entry)) .graph) (treeIn vertices edges (now (tree .entry)) .closed)) ⌝ }
+    ensures { λ r. ⌜ r ≡ length (closedEdges (domainOf vertices edges (now (words .entry)) .graph) (treeIn (now (words .entry)) vertices edges (now (tree .entry)) .closed)) ⌝ }
 {
     let closed = layout::closed_at(edges);
     let mut count = 0;
@@ -283,7 +283,7 @@ fn closed_edges(words: &[u32], vertices: usize, edges: usize, tree: &[u32]) -> u
 // The root's vertex is closed or the root waits.
 fn root_is_reached(tree: &[u32], edges: usize, marks: &[bool]) -> bool
     requires { ⌜ RootMarked edges (now tree) (now marks) ⌝ }
-    ensures { λ r. ⌜ r ≡ begunb (treeOf edges (now (tree .entry))) ⌝ }
+    ensures { λ r. ⌜ BegunIs edges (now (tree .entry)) r ⌝ }
 {
     let start = wide(tree[layout::START]);
     if tree[layout::closed_at(edges) + start] != 0 {
@@ -295,7 +295,7 @@ fn root_is_reached(tree: &[u32], edges: usize, marks: &[bool]) -> bool
 // Each edge that leaves a closed vertex reaches one that is closed, or waits, at no more than the sum.
 fn edges_lead_on(words: &[u32], vertices: usize, edges: usize, tree: &[u32], costs: &[u64]) -> bool
     requires { ⌜ LeadsOn vertices edges (now words) (now tree) (now costs) ⌝ }
-    ensures { λ r. ⌜ r ≡ upto (onwardb (domainOf vertices edges (now (words .entry))) (treeIn vertices edges (now (tree .entry)))) edges ⌝ }
+    ensures { λ r. ⌜ r ≡ upto (onwardb (domainOf vertices edges (now (words .entry))) (treeIn (now (words .entry)) vertices edges (now (tree .entry)))) edges ⌝ }
 {
     let mut e = 0;
     while e < edges {
@@ -316,7 +316,7 @@ fn edge_leads_on(
     edge: usize,
 ) -> bool
     requires { ⌜ LeadsOn vertices edges (now words) (now tree) (now costs) × (edge < edges) ⌝ }
-    ensures { λ r. ⌜ r ≡ onwardb (domainOf vertices edges (now (words .entry))) (treeIn vertices edges (now (tree .entry))) edge ⌝ }
+    ensures { λ r. ⌜ r ≡ onwardb (domainOf vertices edges (now (words .entry))) (treeIn (now (words .entry)) vertices edges (now (tree .entry))) edge ⌝ }
 {
     let closed = layout::closed_at(edges);
     let from = wide(layout::edge_from(words, vertices, edge));

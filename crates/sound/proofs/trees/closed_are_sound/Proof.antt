@@ -12,7 +12,7 @@ use Rattle.sound.proofs.trees.closed_are_sound.Statement.{statement}
 use Rattle.sound.proofs.trees.closed_are_sound.Tie as tie
 
 abbrev Inv-loop : tie.InvT-loop
-Inv-loop words tree vertices edges v₀ v = upto (closerb (treeOf edges tree)) v ≡ true
+Inv-loop words tree vertices edges v₀ v = upto (closerb (treeOf words edges tree)) v ≡ true
 
 abbrev μ-loop : tie.MeasureT-loop
 μ-loop words tree vertices edges v₀ v = vertices - v

@@ -12,7 +12,7 @@ use Rattle.sound.proofs.trees.edges_lead_on.Statement.{statement}
 use Rattle.sound.proofs.trees.edges_lead_on.Tie as tie
 
 abbrev Inv-loop : tie.InvT-loop
-Inv-loop words vertices edges tree costs e₀ e = upto (onwardb (domainOf vertices edges words) (treeIn vertices edges tree)) e ≡ true
+Inv-loop words vertices edges tree costs e₀ e = upto (onwardb (domainOf vertices edges words) (treeIn words vertices edges tree)) e ≡ true
 
 abbrev μ-loop : tie.MeasureT-loop
 μ-loop words vertices edges tree costs e₀ e = edges - e

@@ -19,7 +19,7 @@ abbrev at-start : tie.Joined3 → tie.Start
 at-start c = c .before .before .before .before .before .before .before .before .before .before .before .before .before
 
 -- the word does not go before its parent's
-ordered : (c : tie.Joined3) → let s = at-start c .args in orderb (s .edges) (s .tree .now) (s .i) ≡ true
+ordered : (c : tie.Joined3) → let s = at-start c .args in orderb (s .words .now) (s .edges) (s .tree .now) (s .i) ≡ true
 ordered c = ⊎-elim (λ w. search after-parent) (λ w. search first-word) (c .if3 .came)
 
 pub queue-word-is-sound-spec : {M : Type 1} → statement M
