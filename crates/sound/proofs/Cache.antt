@@ -24,10 +24,11 @@ use Rattle.layout.proofs.Edges.{vertex-count-in, edge-count-in}
 use Rattle.layout.specs.Slots.{slotWords, HasSlot}
 use Rattle.layout.proofs.SlotWords.{slot-words-length}
 use Rattle.graph.specs.Write.{WritesIndex}
-use Rattle.sound.specs.Check.{HasGraph, CanCheck, CanCheckTrees, Marked, TreesIn, treesb}
-use Rattle.sound.proofs.Tests.{one-more, all-passed, all-fails, read-last}
+use Rattle.sound_tree.specs.Check.{CanCheck, Marked}
+use Rattle.sound.specs.Check.{HasGraph, CanCheckTrees, TreesIn, treesb}
+use Rattle.model.proofs.InTurn.{one-more, all-passed, all-fails, read-last}
 use Rattle.sound.proofs.Header.{headed}
-use Rattle.sound.proofs.Marks.{distinct-snoc, marked-none, marked-more}
+use Rattle.sound_tree.proofs.Marks.{distinct-snoc, marked-none, marked-more}
 use Rattle.sound.proofs.Held.{held-at, initials-as, edges-from, edges-to}
 use Rattle.sound.proofs.Slots.{slot-order, slot-before, start-in-at, starts-in-length}
 use Rattle.sound.proofs.Facts.{tree-words-at}
