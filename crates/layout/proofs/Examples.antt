@@ -313,14 +313,14 @@ unused-slot-word = refl
 -- ---- clauses that others imply in the whole
 
 -- nodes used past their area: then they are more than 1 plus the links
-nodes-past-area : formTests 0 (0 ∷ 2 ∷ 0 ∷ 0 ∷ 0 ∷ 4294967295 ∷ 4294967295 ∷ 0 ∷ 1 ∷ []) ≡ false ∷ true ∷ true ∷ true ∷ []
+nodes-past-area : (ws : List ℕ) → formTests ws 0 (0 ∷ 2 ∷ 0 ∷ 0 ∷ 0 ∷ 4294967295 ∷ 4294967295 ∷ 0 ∷ 1 ∷ []) ≡ false ∷ true ∷ true ∷ true ∷ []
 unfolding distinctb upto zerosb
-nodes-past-area = refl
+nodes-past-area ws = refl
 
 -- a queue past its area: with a vertex behind it, then its words are not distinct nodes
-queue-past-area : formTests 0 (0 ∷ 1 ∷ 2 ∷ 0 ∷ 0 ∷ 4294967295 ∷ 4294967295 ∷ 0 ∷ []) ≡ true ∷ false ∷ true ∷ true ∷ []
+queue-past-area : (ws : List ℕ) → formTests ws 0 (0 ∷ 1 ∷ 2 ∷ 0 ∷ 0 ∷ 4294967295 ∷ 4294967295 ∷ 0 ∷ []) ≡ true ∷ false ∷ true ∷ true ∷ []
 unfolding distinctb upto zerosb
-queue-past-area = refl
+queue-past-area ws = refl
 
 -- a tree of one vertex, of its root alone. Read off words, a queue is an ascending list of nodes and closed words are as many as vertices
 abbrev rooted : List ℕ → List ℕ → Tree

@@ -1,6 +1,7 @@
 -- The tree that words hold, word by word: what its nodes and counts are by their words, and the words by them.
 -- Assumes nothing.
-use mathlib.Core.Path.{_≡_, sym, ap, _∙_}
+use mathlib.Core.Path.{_≡_, refl, sym, ap, _∙_}
+use mathlib.Core.Logic.{_≢_}
 use mathlib.Core.List.{List}
 use Prim.Native.Nat.{ℕ, _+_, _-_, _/_, _<_, _≤_}
 use native.Mathlib.Nat.{add-zero}
@@ -11,23 +12,23 @@ use lib.Seq.{ext-getD}
 use Rattle.model.specs.Lists.{numbers}
 use Rattle.model.specs.Tree.{Node, noNode, node, closedAt}
 use Rattle.model.proofs.Lists.{up-length, map-up-at}
-use Rattle.layout.specs.Layout.{startAt, usedAt, queuedAt, startIn, usedIn, queuedIn, nodesAt, nodeSize, nodeAt, nodeEnd, nodeCostAt, nodeParentAt, nodeEdgeAt, closedWordsAt, closedWordIn}
+use Rattle.layout.specs.Layout.{startAt, usedAt, queuedAt, startIn, usedIn, queuedIn, nodesAt, nodeSize, nodeAt, nodeEnd, nodeCostAt, nodeParentAt, nodeEdgeAt, closedWordsAt, closedWordIn, slotsAt, treeCountAt}
 use Rattle.layout.specs.Words.{nodeWords}
 use Rattle.layout.specs.Read.{nodeIn, nodesIn, treeIn}
 use Rattle.layout.proofs.Places.{part-at, part-length}
 
-pub nodes-in-length : (n : ℕ) (t : List ℕ) → length (nodesIn n t) ≡ n
-nodes-in-length n t = length-map (numbers n) (nodeIn t) ∙ up-length n 0
+pub nodes-in-length : (ws : List ℕ) (n : ℕ) (t : List ℕ) → length (nodesIn ws n t) ≡ n
+nodes-in-length ws n t = length-map (numbers n) (nodeIn ws t) ∙ up-length n 0
 
--- node k of the n that stand in a tree's own words
-pub node-at : (n : ℕ) (t : List ℕ) (k : ℕ) → k < n → node (nodesIn n t) k ≡ nodeIn t k
-node-at n t k h = map-up-at (nodeIn t) noNode n 0 k h ∙ ap (nodeIn t) (omega arith)
+-- node k of the n that stand in a tree's words
+pub node-at : (ws : List ℕ) (n : ℕ) (t : List ℕ) (k : ℕ) → k < n → node (nodesIn ws n t) k ≡ nodeIn ws t k
+node-at ws n t k h = map-up-at (nodeIn ws t) noNode n 0 k h ∙ ap (nodeIn ws t) (omega arith)
 
 -- ---- the words of a node
 
 -- words that hold those of x
-pub words-node : (t : List ℕ) (k : ℕ) (x : Node) → ((i : ℕ) → i < nodeSize → getD t (nodeAt k + i) 0 ≡ getD (nodeWords x) i 0) → nodeIn t k ≡ x
-words-node t k x f = λ i. record {
+pub words-node : (ws t : List ℕ) (k : ℕ) (x : Node) → ((i : ℕ) → i < nodeSize → getD t (nodeAt k + i) 0 ≡ getD (nodeWords x) i 0) → nodeIn ws t k ≡ x
+words-node ws t k x f = λ i. record {
   vertex = (ap (λ (j : ℕ). getD t j 0) (sym (add-zero (nodeAt k))) ∙ f 0 (omega arith)) i;
   cost = f nodeCostAt (omega arith) i;
   parent = f nodeParentAt (omega arith) i;
@@ -35,23 +36,23 @@ words-node t k x f = λ i. record {
 }
 
 -- words that stayed hold the same node
-pub node-same : (s t : List ℕ) (k : ℕ) → ((j : ℕ) → nodeAt k ≤ j → j < nodeEnd k → getD t j 0 ≡ getD s j 0) → nodeIn t k ≡ nodeIn s k
-node-same s t k f = λ i. record {
+pub node-same : (ws s t : List ℕ) (k : ℕ) → ((j : ℕ) → nodeAt k ≤ j → j < nodeEnd k → getD t j 0 ≡ getD s j 0) → nodeIn ws t k ≡ nodeIn ws s k
+node-same ws s t k f = λ i. record {
   vertex = f (nodeAt k) (omega arith) (omega arith) i;
   cost = f (nodeAt k + nodeCostAt) (omega arith) (omega arith) i;
   parent = f (nodeAt k + nodeParentAt) (omega arith) (omega arith) i;
   edge = f (nodeAt k + nodeEdgeAt) (omega arith) (omega arith) i;
 }
 
-pub nodes-same : (n : ℕ) (s t : List ℕ) → ((j : ℕ) → nodesAt ≤ j → j < nodeAt n → getD t j 0 ≡ getD s j 0) → nodesIn n t ≡ nodesIn n s
-nodes-same n s t f =
-    ext-getD noNode (nodesIn n t) (nodesIn n s) (nodes-in-length n t ∙ sym (nodes-in-length n s)) (λ k b.
-    let h : k < n = omega (arith, nodes-in-length n t) in
-    node-at n t k h ∙ node-same s t k (λ j low high. f j (omega arith) (omega arith)) ∙ sym (node-at n s k h))
+pub nodes-same : (ws : List ℕ) (n : ℕ) (s t : List ℕ) → ((j : ℕ) → nodesAt ≤ j → j < nodeAt n → getD t j 0 ≡ getD s j 0) → nodesIn ws n t ≡ nodesIn ws n s
+nodes-same ws n s t f =
+    ext-getD noNode (nodesIn ws n t) (nodesIn ws n s) (nodes-in-length ws n t ∙ sym (nodes-in-length ws n s)) (λ k b.
+    let h : k < n = omega (arith, nodes-in-length ws n t) in
+    node-at ws n t k h ∙ node-same ws s t k (λ j low high. f j (omega arith) (omega arith)) ∙ sym (node-at ws n s k h))
 
 -- the node fixes its words
-pub node-words : (s t : List ℕ) (k j : ℕ) → nodeAt k ≤ j → j < nodeEnd k → nodeIn s k ≡ nodeIn t k → getD s j 0 ≡ getD t j 0
-node-words s t k j low high e = elim (ℕ-discrete j (nodeAt k)) [
+pub node-words : (ws s t : List ℕ) (k j : ℕ) → nodeAt k ≤ j → j < nodeEnd k → nodeIn ws s k ≡ nodeIn ws t k → getD s j 0 ≡ getD t j 0
+node-words ws s t k j low high e = elim (ℕ-discrete j (nodeAt k)) [
   | yes q ↦ rw q (ap (λ (x : Node). x .vertex) e)
   | no n0 ↦ elim (ℕ-discrete j (nodeAt k + nodeCostAt)) [
     | yes q ↦ rw q (ap (λ (x : Node). x .cost) e)
@@ -75,19 +76,26 @@ header-words s t start used j h queued = elim (ℕ-discrete j startAt) [
   | no n0 ↦ elim (ℕ-discrete j usedAt) [ yes e ↦ rw e used | no n1 ↦ let e : j ≡ queuedAt = omega arith in rw e (queued e) ]
 ]
 
-module _ (m l : ℕ) (t : List ℕ) where
-  pub tree-nodes : length (treeIn m l t .nodes) ≡ usedIn t
+module _ (ws : List ℕ) (m l : ℕ) (t : List ℕ) where
+  pub tree-nodes : length (treeIn ws m l t .nodes) ≡ usedIn t
   unfolding treeIn
-  tree-nodes = nodes-in-length (usedIn t) t
+  tree-nodes = nodes-in-length ws (usedIn t) t
 
-  pub tree-node : (k : ℕ) → k < usedIn t → node (treeIn m l t .nodes) k ≡ nodeIn t k
+  pub tree-node : (k : ℕ) → k < usedIn t → node (treeIn ws m l t .nodes) k ≡ nodeIn ws t k
   unfolding treeIn
-  tree-node k h = node-at (usedIn t) t k h
+  tree-node k h = node-at ws (usedIn t) t k h
 
-  pub tree-closed : (v : ℕ) → v < m → closedAt (treeIn m l t .closed) v ≡ closedWordIn l t v
+  pub tree-closed : (v : ℕ) → v < m → closedAt (treeIn ws m l t .closed) v ≡ closedWordIn l t v
   unfolding treeIn
   tree-closed v h = part-at (closedWordsAt l) m t v h
 
-  pub tree-closed-length : closedWordsAt l + m ≤ length t → length (treeIn m l t .closed) ≡ m
+  pub tree-closed-length : closedWordsAt l + m ≤ length t → length (treeIn ws m l t .closed) ≡ m
   unfolding treeIn
   tree-closed-length h = part-length (closedWordsAt l) m t h
+
+-- ---- a tree's words beside other words of the cache
+
+-- before the slots the words are the same, the count of trees apart: the tree is the same
+pub tree-graph : (m l : ℕ) (ws left t : List ℕ) → ((j : ℕ) → j ≢ treeCountAt → j < slotsAt m l → getD left j 0 ≡ getD ws j 0) → treeIn left m l t ≡ treeIn ws m l t
+unfolding treeIn
+tree-graph m l ws left t same = refl

@@ -7,7 +7,7 @@ use Rattle.model.specs.Lists.{numbers, those, mem}
 use Rattle.model.specs.Graph.{Edge, Graph, Direction, forward, backward, Domain}
 use Rattle.model.specs.Tree.{Node, Tree}
 use Rattle.model.specs.Calls.{Cache}
-use Rattle.layout.specs.Layout.{directionIn, verticesIn, edgesIn, slotsIn, treesIn, startIn, usedIn, queuedIn, initialAt, edgesAt, edgeSize, edgeToAt, edgeCostAt, nodeAt, costIn, parentIn, edgeIn, queueAt, closedWordsAt, treeWords, slotAt, part}
+use Rattle.layout.specs.Layout.{directionIn, verticesIn, edgesIn, slotsIn, treesIn, startIn, usedIn, queuedIn, initialAt, edgesAt, edgeSize, edgeToAt, edgeCostAt, vertexIn, costIn, parentIn, edgeIn, queueAt, closedWordsAt, treeWords, slotAt, part}
 
 -- "direction 0 forward or 1 backward"
 abbrev pub directionOf : ℕ → Direction
@@ -31,25 +31,25 @@ domainIn dir m l ws = record { direction = dir; graph = graphIn m l ws }
 abbrev pub domainOf : ℕ → ℕ → List ℕ → Domain
 domainOf m l ws = domainIn (directionOf (directionIn ws)) m l ws
 
--- node k of a tree's own words, and the first n nodes
-abbrev pub nodeIn : List ℕ → ℕ → Node
-nodeIn t k = record { vertex = getD t (nodeAt k) 0; cost = costIn t k; parent = parentIn t k; edge = edgeIn t k }
+-- node k of a tree's words, and the first n nodes; a vertex is read of the cache's words ws too
+abbrev pub nodeIn : List ℕ → List ℕ → ℕ → Node
+nodeIn ws t k = record { vertex = vertexIn ws t k; cost = costIn t k; parent = parentIn t k; edge = edgeIn t k }
 
-abbrev pub nodesIn : ℕ → List ℕ → List Node
-nodesIn n t = map (nodeIn t) (numbers n)
+abbrev pub nodesIn : List ℕ → ℕ → List ℕ → List Node
+nodesIn ws n t = map (nodeIn ws t) (numbers n)
 
--- a tree's own words; the queue is read as the ascending list of the nodes in it, so that the arrangement of its words is forgotten
-unfoldable pub treeIn : ℕ → ℕ → List ℕ → Tree
+-- a tree's words t, of the cache whose words are ws; the queue is read as the ascending list of the nodes in it, so that the arrangement of its words is forgotten
+unfoldable pub treeIn : List ℕ → ℕ → ℕ → List ℕ → Tree
 unfolding those mem
-treeIn m l t = record {
+treeIn ws m l t = record {
   start = startIn t;
-  nodes = nodesIn (usedIn t) t;
+  nodes = nodesIn ws (usedIn t) t;
   waiting = those (λ n. mem n (part (queueAt l) (queuedIn t) t)) (numbers (usedIn t));
   closed = part (closedWordsAt l) m t;
 }
 
 abbrev pub readTrees : ℕ → ℕ → ℕ → List ℕ → List Tree
-readTrees m l used ws = map (λ i. treeIn m l (part (slotAt m l i) (treeWords m l) ws)) (numbers used)
+readTrees m l used ws = map (λ i. treeIn ws m l (part (slotAt m l i) (treeWords m l) ws)) (numbers used)
 
 -- "Header, 5 words: direction, M, L, T, trees in use."
 unfoldable pub readCache : List ℕ → Cache

@@ -33,7 +33,7 @@ abbrev pub wordsIn : Slot → List ℕ → List ℕ
 wordsIn s ws = slotWords (s .vertices) (s .edges) (s .number) ws
 
 abbrev pub treeAt : Slot → List ℕ → Tree
-treeAt s ws = treeIn (s .vertices) (s .edges) (wordsIn s ws)
+treeAt s ws = treeIn ws (s .vertices) (s .edges) (wordsIn s ws)
 
 abbrev pub domainAt : Slot → List ℕ → Domain
 domainAt s ws = domainOf (s .vertices) (s .edges) ws

@@ -70,7 +70,7 @@ graphTests d ws =
     ∷ indexb d ws
     ∷ []
 
--- ---- one tree: what is asked of its own words beside the tree read off them
+-- ---- one tree: what is asked of its words t beside the tree read off them; ws: the words of its cache
 
 -- the queue words in use
 abbrev pub queueIn : ℕ → List ℕ → List ℕ
@@ -81,12 +81,12 @@ abbrev pub heapb : List Node → List ℕ → Bool
 heapb ns q = upto (λ i. eqb i 0 || not (precedes ns (getD q i 0) (getD q ((i - 1) / 2) 0))) (length q)
 
 -- the first n queue words: "queue words are distinct nodes in heap order by cost, then number"
-abbrev pub queueTests : ℕ → List ℕ → ℕ → List Bool
-queueTests l t n =
+abbrev pub queueTests : List ℕ → ℕ → List ℕ → ℕ → List Bool
+queueTests ws l t n =
     let q = part (queueAt l) n t in
     allBelow (usedIn t) q
     ∷ distinctb q
-    ∷ heapb (nodesIn (usedIn t) t) q
+    ∷ heapb (nodesIn ws (usedIn t) t) q
     ∷ []
 
 -- unused nodes, unused queue words
@@ -97,22 +97,22 @@ spareTests l t =
     ∷ []
 
 -- nodes used and queue length are within their areas
-abbrev pub formTests : ℕ → List ℕ → List Bool
-formTests l t =
+abbrev pub formTests : List ℕ → ℕ → List ℕ → List Bool
+formTests ws l t =
     leb (usedIn t) (1 + l)
     ∷ leb (queuedIn t) (1 + l)
-    ∷ allb (queueTests l t (queuedIn t))
+    ∷ allb (queueTests ws l t (queuedIn t))
     ∷ allb (spareTests l t)
     ∷ []
 
-unfoldable pub formedb : ℕ → List ℕ → Bool
+unfoldable pub formedb : List ℕ → ℕ → List ℕ → Bool
 unfolding upto distinctb zerosb
-formedb l t = allb (formTests l t)
+formedb ws l t = allb (formTests ws l t)
 
 -- "in each tree: ..": its words are formed, and the tree read off them is sound
-unfoldable pub treeWordsb : Domain → ℕ → ℕ → List ℕ → Bool
+unfoldable pub treeWordsb : Domain → List ℕ → ℕ → ℕ → List ℕ → Bool
 unfolding formedb soundb treeIn
-treeWordsb d m l t = formedb l t && soundb d (treeIn m l t)
+treeWordsb d ws m l t = formedb ws l t && soundb d (treeIn ws m l t)
 
 -- ---- the whole
 
@@ -124,7 +124,7 @@ treesTests ws =
     let l = edgesIn ws in
     let used = treesIn ws in
     distinctb (starts (c .trees))
-    ∷ upto (λ i. treeWordsb (c .domain) m l (slotWords m l i ws)) used
+    ∷ upto (λ i. treeWordsb (c .domain) ws m l (slotWords m l i ws)) used
     ∷ zerosb (part (slotAt m l used) (needed m l (slotsIn ws) - slotAt m l used) ws)
     ∷ []
 

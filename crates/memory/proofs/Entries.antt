@@ -19,7 +19,7 @@ use Rattle.model.specs.Sound.{tree}
 use Rattle.model.specs.Valid.{knownWithin, closesGoal, solutionCloses, entryTests, sameCost, isHeld}
 use Rattle.layout.specs.Read.{readCache}
 use Rattle.sound.proofs.Facts.{trees-length}
-use Rattle.sound.proofs.Tests.{all-fails, read-last}
+use Rattle.model.proofs.InTurn.{all-fails, read-last}
 use Rattle.sound.specs.Facts.{InUse}
 use Rattle.memory.specs.Memory.{HasNode, bestNodeTests}
 use Rattle.memory.proofs.Fits.{closes-node}

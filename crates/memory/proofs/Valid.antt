@@ -24,7 +24,7 @@ use Rattle.model.proofs.Valid.{entries-length, entries-at}
 use Rattle.layout.specs.Read.{readCache}
 use Rattle.sound.specs.Facts.{SoundWords, InUse}
 use Rattle.sound.proofs.Facts.{vertices-read}
-use Rattle.sound.proofs.Tests.{all-fails}
+use Rattle.model.proofs.InTurn.{all-fails}
 use Rattle.memory.specs.declared.Standing.{Standing}
 use Rattle.memory.specs.declared.Standing.the-variants.{Invalid}
 use Rattle.memory.specs.Memory.{Listed, CanJudge, bestNodeTests}

@@ -1,4 +1,5 @@
 pub mod Bools
+pub mod InTurn
 pub mod Replies
 pub mod Solve
 pub mod Lists

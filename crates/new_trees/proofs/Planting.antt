@@ -16,7 +16,7 @@ use Rattle.layout.specs.Layout.{treeCountAt, initialIn, initialAt, treeWords, s
 use Rattle.layout.specs.Read.{directionOf, readCache}
 use Rattle.sound.specs.Facts.{SoundWords}
 use Rattle.sound.proofs.Facts.{trees-length}
-use Rattle.sound.proofs.Nodes.{start-cost}
+use Rattle.sound_tree.proofs.Nodes.{start-cost}
 use Rattle.new_trees.specs.Plant.{rootWords, planted, plantedAll, withNew, CanPlantAll, PlantsAll, CanPlant, Plants}
 use Rattle.new_trees.proofs.Stored.{stored-part}
 use Rattle.new_trees.proofs.Planted.{fits, root-inside, plants}

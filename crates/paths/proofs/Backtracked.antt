@@ -18,9 +18,9 @@ use Rattle.paths.proofs.Steps.{root-moves}
 use Rattle.paths.proofs.Written.{written-first, written-behind, written-before}
 use Rattle.paths.proofs.Parents.{hung-parent, hung-moves, hung-words, hung-root}
 
-pub root-backtracks : {ws t p : List ℕ} {dir n v : ℕ} → CanBacktrack ws t n (length p) → v ≡ vertexIn ws t n → n ≡ 0 → Backtracks t dir n p 1 (set p 0 v)
+pub root-backtracks : {ws t p : List ℕ} {dir n v : ℕ} → CanBacktrack ws t n (length p) → v ≡ vertexIn ws t n → n ≡ 0 → Backtracks ws t dir n p 1 (set p 0 v)
 root-backtracks {ws} {t} {p} {dir} {n} {v} can vertex e = record {
-  count = omega (arith, root-moves (nodesOf t), ap (movesOf (nodesOf t)) e);
+  count = omega (arith, root-moves (nodesOf ws t), ap (movesOf (nodesOf ws t)) e);
   path =
       written-first v p (omega (arith, can .room))
       ∙ ap (λ (xs : List ℕ). written xs p) (ap (λ (x : ℕ). x ∷ []) vertex ∙ sym (hung-root t n (can .hung) ws (directionOf dir) e));
@@ -41,10 +41,10 @@ module _ {ws t : List ℕ} {n up l v k : ℕ} (b : Below ws t n up l v k) where
   pub parent-less : up < n
   parent-less = omega (arith, b .parent, b .can .hung .parents n pos (omega arith))
 
-  parent-moves : movesOf (nodesOf t) n ≡ 1 + movesOf (nodesOf t) up
-  parent-moves = hung-moves t n (b .can .hung) pos ∙ ap (λ (i : ℕ). 1 + movesOf (nodesOf t) i) (sym (b .parent))
+  parent-moves : movesOf (nodesOf ws t) n ≡ 1 + movesOf (nodesOf ws t) up
+  parent-moves = hung-moves t n (b .can .hung) ws pos ∙ ap (λ (i : ℕ). 1 + movesOf (nodesOf ws t) i) (sym (b .parent))
 
-  parent-words : (dir : Direction) → words dir (nodesOf t) n ≡ moved dir (words dir (nodesOf t) up) l v
+  parent-words : (dir : Direction) → words dir (nodesOf ws t) n ≡ moved dir (words dir (nodesOf ws t) up) l v
   parent-words dir = rw (b .parent, b .edge, b .vertex) (hung-words t n (b .can .hung) ws dir pos)
 
   -- the parent's path asks for two words less
@@ -54,17 +54,17 @@ module _ {ws t : List ℕ} {n up l v k : ℕ} (b : Below ws t n up l v k) where
   pub two-words : 2 ≤ k
   two-words = omega (arith, b .can .room, parent-moves)
 
-  pub parent-room : {dir r : ℕ} {p q : List ℕ} → Backtracks t dir up p r q → r + 2 ≤ k
+  pub parent-room : {dir r : ℕ} {p q : List ℕ} → Backtracks ws t dir up p r q → r + 2 ≤ k
   parent-room done = omega (arith, done .count, b .can .room, parent-moves)
 
-  next-count : {dir r : ℕ} {p q : List ℕ} → Backtracks t dir up p r q → r + 2 ≡ 1 + 2 * movesOf (nodesOf t) n
+  next-count : {dir r : ℕ} {p q : List ℕ} → Backtracks ws t dir up p r q → r + 2 ≡ 1 + 2 * movesOf (nodesOf ws t) n
   next-count done = omega (arith, done .count, parent-moves)
 
 module _ {ws t p q : List ℕ} {n up l v dir r : ℕ} (b : Below ws t n up l v (length p)) where
-  pub forward-backtracks : dir ≡ 0 → Backtracks t dir up p r q → Backtracks t dir n p (r + 2) (set (set q r l) (r + 1) v)
+  pub forward-backtracks : dir ≡ 0 → Backtracks ws t dir up p r q → Backtracks ws t dir n p (r + 2) (set (set q r l) (r + 1) v)
   forward-backtracks z done =
-      let xs : List ℕ = words (directionOf dir) (nodesOf t) up in
-      let size : r ≡ length xs = done .count ∙ sym (words-count (directionOf dir) (nodesOf t) up) in
+      let xs : List ℕ = words (directionOf dir) (nodesOf ws t) up in
+      let size : r ≡ length xs = done .count ∙ sym (words-count (directionOf dir) (nodesOf ws t) up) in
       record {
         count = next-count b done;
         path =
@@ -74,9 +74,9 @@ module _ {ws t p q : List ℕ} {n up l v dir r : ℕ} (b : Below ws t n up l v (
             ∙ ap (λ (x : List ℕ). written x p) (sym (parent-words b (directionOf dir)));
       }
 
-  pub backward-backtracks : (dir ≡ 0 → ⊥) → Backtracks t dir up (midOf 2 (length p - 2) p) r q → Backtracks t dir n p (r + 2) (set (set (putMid 2 (length p - 2) p q) 0 v) 1 l)
+  pub backward-backtracks : (dir ≡ 0 → ⊥) → Backtracks ws t dir up (midOf 2 (length p - 2) p) r q → Backtracks ws t dir n p (r + 2) (set (set (putMid 2 (length p - 2) p q) 0 v) 1 l)
   backward-backtracks z done =
-      let xs : List ℕ = words (directionOf dir) (nodesOf t) up in
+      let xs : List ℕ = words (directionOf dir) (nodesOf ws t) up in
       record {
         count = next-count b done;
         path =

@@ -13,11 +13,11 @@ use Rattle.paths.proofs.Parents.{hung-parent, hung-moves}
 -- from node n the way has come to node i in m moves
 pub record Counted (t : List ℕ) (n m i : ℕ) : Type 0 where
   pub hung : Hung t i
-  pub moves : m + movesOf (nodesOf t) i ≡ movesOf (nodesOf t) n
+  pub moves : (ws : List ℕ) → m + movesOf (nodesOf ws t) i ≡ movesOf (nodesOf ws t) n
   pub few : m + i ≤ n
 
 pub count-start : {t : List ℕ} {n : ℕ} → Hung t n → Counted t n 0 n
-count-start h = record { hung = h; moves = omega arith; few = omega arith }
+count-start h = record { hung = h; moves = λ ws. omega arith; few = omega arith }
 
 module _ {t : List ℕ} {n m i : ℕ} (k : Counted t n m i) where
   pub count-less : {x j : ℕ} → 0 < i → x ≡ parentIn t i → j ≡ x → j < i
@@ -28,9 +28,9 @@ module _ {t : List ℕ} {n m i : ℕ} (k : Counted t n m i) where
       let up = w ∙ e in
       record {
         hung = rw up (hung-parent t i (k .hung) pos);
-        moves = omega (arith, k .moves, hung-moves t i (k .hung) pos, ap (movesOf (nodesOf t)) up);
+        moves = λ ws. omega (arith, k .moves ws, hung-moves t i (k .hung) ws pos, ap (movesOf (nodesOf ws t)) up);
         few = omega (arith, k .few, count-less pos e w);
       }
 
-  pub count-end : i ≤ 0 → m ≡ movesOf (nodesOf t) n
-  count-end z = let e : i ≡ 0 = omega arith in omega (arith, k .moves, root-moves (nodesOf t), ap (movesOf (nodesOf t)) e)
+  pub count-end : i ≤ 0 → (ws : List ℕ) → m ≡ movesOf (nodesOf ws t) n
+  count-end z ws = let e : i ≡ 0 = omega arith in omega (arith, k .moves ws, root-moves (nodesOf ws t), ap (movesOf (nodesOf ws t)) e)

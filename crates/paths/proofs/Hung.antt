@@ -11,12 +11,12 @@ use Rattle.tree.specs.Tree.{Formed}
 use Rattle.paths.specs.Path.{Hung}
 use Rattle.layout.specs.Layout.{usedIn}
 
-pub sound-hung : (d : Domain) (t : List ℕ) (l m n : ℕ) → Formed l t → Sound d (treeIn m l t) → n < usedIn t → Hung t n
-sound-hung d t l m n f ok h =
+pub sound-hung : (d : Domain) (ws t : List ℕ) (l m n : ℕ) → Formed l t → Sound d (treeIn ws m l t) → n < usedIn t → Hung t n
+sound-hung d ws t l m n f ok h =
     record {
       used = h;
       within = omega (arith, f .fits, f .used);
       parents = λ i pos le.
           let at : i < usedIn t = omega arith in
-          rw (tree-node m l t i at) at (ok .hangs i (omega arith) (rw (tree-nodes m l t) at) .lower);
+          rw (tree-node ws m l t i at) at (ok .hangs i (omega arith) (rw (tree-nodes ws m l t) at) .lower);
     }

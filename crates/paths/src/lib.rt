@@ -1,15 +1,13 @@
 // The path from a tree's root to a node: the Rust's `Path`, of which `backtrack` is ported.
 use layout::wide;
-ghost use mathlib.Core.Path.{_≡_};
 ghost use lib.ListN.{length};
-ghost use Rattle.model.specs.Path.{movesOf};
 ghost use Rattle.layout.specs.Layout.{directionIn};
-ghost use Rattle.paths.specs.Path.{nodesOf, Hung, CanBacktrack, Backtracks};
+ghost use Rattle.paths.specs.Path.{Hung, MovesIs, CanBacktrack, Backtracks};
 
 // How many edges lead from the root to a node.
 pub fn moves(tree: &[u32], node: usize) -> usize
     requires { ⌜ Hung (now tree) node ⌝ }
-    ensures { λ r. ⌜ r ≡ movesOf (nodesOf (now (tree .entry))) node ⌝ }
+    ensures { λ r. ⌜ MovesIs (now (tree .entry)) node r ⌝ }
 {
     let mut moves = 0;
     let mut at = node;
@@ -24,7 +22,7 @@ pub fn moves(tree: &[u32], node: usize) -> usize
 // stands two words further on, since the path runs from the node to the root.
 pub fn backtrack(words: &[u32], tree: &[u32], node: usize, path: &mut [u32]) -> usize
     requires { ⌜ CanBacktrack (now words) (now tree) node (length (now path)) ⌝ }
-    ensures { λ r. ⌜ Backtracks (now (tree .entry)) (directionIn (now (words .entry))) node (now (path .entry)) r (now (path .exit)) ⌝ }
+    ensures { λ r. ⌜ Backtracks (now (words .entry)) (now (tree .entry)) (directionIn (now (words .entry))) node (now (path .entry)) r (now (path .exit)) ⌝ }
 {
     let vertex = layout::node_vertex(words, tree, node);
     if node == 0 {

@@ -24,10 +24,11 @@ use Rattle.layout.proofs.Edges.{vertex-count-in, edge-count-in}
 use Rattle.layout.specs.Slots.{slotWords, HasSlot}
 use Rattle.layout.proofs.SlotWords.{slot-words-length}
 use Rattle.graph.specs.Write.{WritesIndex}
-use Rattle.sound.specs.Check.{HasGraph, CanCheck, CanCheckTrees, Marked, TreesIn, treesb}
-use Rattle.sound.proofs.Tests.{one-more, all-passed, all-fails, read-last}
+use Rattle.sound_tree.specs.Check.{CanCheck, Marked}
+use Rattle.sound.specs.Check.{HasGraph, CanCheckTrees, TreesIn, treesb}
+use Rattle.model.proofs.InTurn.{one-more, all-passed, all-fails, read-last}
 use Rattle.sound.proofs.Header.{headed}
-use Rattle.sound.proofs.Marks.{distinct-snoc, marked-none, marked-more}
+use Rattle.sound_tree.proofs.Marks.{distinct-snoc, marked-none, marked-more}
 use Rattle.sound.proofs.Held.{held-at, initials-as, edges-from, edges-to}
 use Rattle.sound.proofs.Slots.{slot-order, slot-before, start-in-at, starts-in-length}
 use Rattle.sound.proofs.Facts.{tree-words-at}
@@ -106,7 +107,7 @@ module _ (ws : List ℕ) where
   own i = slotWords (verticesIn ws) (edgesIn ws) i ws
 
   abbrev treeb : ℕ → Bool
-  treeb i = treeWordsb (domainOf (verticesIn ws) (edgesIn ws) ws) (verticesIn ws) (edgesIn ws) (own i)
+  treeb i = treeWordsb (domainOf (verticesIn ws) (edgesIn ws) ws) ws (verticesIn ws) (edgesIn ws) (own i)
 
   -- the vertices at which the first n trees start
   abbrev startsTo : ℕ → List ℕ
@@ -115,8 +116,8 @@ module _ (ws : List ℕ) where
   starts-more : (i : ℕ) → startsTo (i + 1) ≡ startsTo i ++ (startIn (own i) ∷ [])
   unfolding treeIn
   starts-more i =
-      ap (λ (xs : List ℕ). starts (map (λ j. treeIn (verticesIn ws) (edgesIn ws) (own j)) xs)) (ap numbers (add-one i) ∙ numbers-snoc i)
-      ∙ starts-snoc (λ j. treeIn (verticesIn ws) (edgesIn ws) (own j)) (numbers i) i
+      ap (λ (xs : List ℕ). starts (map (λ j. treeIn ws (verticesIn ws) (edgesIn ws) (own j)) xs)) (ap numbers (add-one i) ∙ numbers-snoc i)
+      ∙ starts-snoc (λ j. treeIn ws (verticesIn ws) (edgesIn ws) (own j)) (numbers i) i
 
   -- fewer trees pass too
   trees-less : (i n : ℕ) → i ≤ n → treesb n ws ≡ true → treesb i ws ≡ true
@@ -154,9 +155,9 @@ module _ {i n : ℕ} {ws : List ℕ} (ok : TreesIn n ws) (h : i < n) where
     pub has-start : 0 < length t
     has-start = omega (arith, can-check .len)
 
-    module _ {r : Bool} (er : r ≡ treeWordsb (domainOf m l ws) m l t) where
+    module _ {r : Bool} (er : r ≡ treeWordsb (domainOf m l ws) ws m l t) where
       answer : r ≡ treeb ws i
-      answer = er ∙ (λ j. treeWordsb (domainOf (em j) (el j) ws) (em j) (el j) (et j))
+      answer = er ∙ (λ j. treeWordsb (domainOf (em j) (el j) ws) ws (em j) (el j) (et j))
 
       pub tree-fails : not r ≡ true → false ≡ treesb n ws
       unfolding treesb
@@ -172,7 +173,7 @@ module _ {i n : ℕ} {ws : List ℕ} (ok : TreesIn n ws) (h : i < n) where
         start-small : s < 1024
         unfolding treeIn
         start-small =
-            let sound = tree-words-at (domainOf (verticesIn ws) (edgesIn ws) ws) (verticesIn ws) (edgesIn ws) (own ws i) (ok .held .sized) (slot-words-length has-slot) (sym answer ∙ not-false r e) .1 in
+            let sound = tree-words-at (domainOf (verticesIn ws) (edgesIn ws) ws) ws (verticesIn ws) (edgesIn ws) (own ws i) (ok .held .sized) (slot-words-length has-slot) (sym answer ∙ not-false r e) .1 in
             omega (arith, sound .inside, vertex-count-in (verticesIn ws) (edgesIn ws) ws (omega (arith, ok .held .fits)), ok .held .sized .vertices, start-is)
 
         module _ {marks : List Bool} (marked : Marked marks 1024 (startsTo ws i)) where

@@ -29,27 +29,27 @@ use Rattle.sound.proofs.Slots.{slot-length, tree-in-at, start-in-at, tr
 
 -- ---- one tree's words
 
-module _ (d : Domain) (m l : ℕ) (t : List ℕ) where
+module _ (d : Domain) (ws : List ℕ) (m l : ℕ) (t : List ℕ) where
   -- a closed word of a sound tree is 0, or one more than a node
-  closers : length t ≡ treeWords m l → Sound d (treeIn m l t) → (v : ℕ) → closedWordsAt l + v < length t → getD t (closedWordsAt l + v) 0 ≤ usedIn t
+  closers : length t ≡ treeWords m l → Sound d (treeIn ws m l t) → (v : ℕ) → closedWordsAt l + v < length t → getD t (closedWordsAt l + v) 0 ≤ usedIn t
   closers len ok v h = elim (ℕ-discrete w 0) [
     | yes z ↦ omega arith
-    | no nz ↦ omega (arith, ok .closer v (w - 1) (tree-closed m l t v (omega arith) ∙ omega arith) .0, tree-nodes m l t)
+    | no nz ↦ omega (arith, ok .closer v (w - 1) (tree-closed ws m l t v (omega arith) ∙ omega arith) .0, tree-nodes ws m l t)
   ]
     where
       w : ℕ
       w = getD t (closedWordsAt l + v) 0
 
-  pub tree-words-at : Sized m l → length t ≡ treeWords m l → treeWordsb d m l t ≡ true → Formed l t × Sound d (treeIn m l t)
+  pub tree-words-at : Sized m l → length t ≡ treeWords m l → treeWordsb d ws m l t ≡ true → Formed l t × Sound d (treeIn ws m l t)
   unfolding treeWordsb
   tree-words-at sized len e =
-      let r = and-true (formedb l t) (soundb d (treeIn m l t)) e in
-      let ok : Sound d (treeIn m l t) = sound-at d (treeIn m l t) (r .1) in
-      (formed-at l t (sized .edges) (omega arith) (omega (arith, sized .vertices)) (closers len ok) (r .0), ok)
+      let r = and-true (formedb ws l t) (soundb d (treeIn ws m l t)) e in
+      let ok : Sound d (treeIn ws m l t) = sound-at d (treeIn ws m l t) (r .1) in
+      (formed-at ws l t (sized .edges) (omega arith) (omega (arith, sized .vertices)) (closers len ok) (r .0), ok)
 
-  at-tree-words : Formed l t → Sound d (treeIn m l t) → treeWordsb d m l t ≡ true
+  at-tree-words : Formed l t → Sound d (treeIn ws m l t) → treeWordsb d ws m l t ≡ true
   unfolding treeWordsb
-  at-tree-words formed ok = true-and (formedb l t) (soundb d (treeIn m l t)) (at-formed l t formed) (at-sound d (treeIn m l t) ok)
+  at-tree-words formed ok = true-and (formedb ws l t) (soundb d (treeIn ws m l t)) (at-formed ws l t formed) (at-sound d (treeIn ws m l t) ok)
 
 -- ---- the whole
 
@@ -71,8 +71,8 @@ module _ (ws : List ℕ) where
       let h = headed ws (p .0) in
       let t = all-true (treesTests ws) (q .1) in
       let len : (i : ℕ) → i < u → length (slotWords m l i ws) ≡ treeWords m l = λ i k. slot-length m l ws {n = slotsIn ws} (omega (arith, h .used)) (h .fits) in
-      let tree-at : (i : ℕ) → i < u → Formed l (slotWords m l i ws) × Sound (domainOf m l ws) (treeIn m l (slotWords m l i ws)) =
-      λ i k. tree-words-at (domainOf m l ws) m l (slotWords m l i ws) (h .sized) (len i k) (upto-at _ u (t .1 .0) i k) in
+      let tree-at : (i : ℕ) → i < u → Formed l (slotWords m l i ws) × Sound (domainOf m l ws) (treeIn ws m l (slotWords m l i ws)) =
+      λ i k. tree-words-at (domainOf m l ws) ws m l (slotWords m l i ws) (h .sized) (len i k) (upto-at _ u (t .1 .0) i k) in
       record {
         header = h .header;
         direction = h .direction;
@@ -110,7 +110,7 @@ module _ (ws : List ℕ) where
         let h : i < u = omega arith in
         let k : j < u = omega arith in
         ok .differ i j h k (sym (start-in-at m l ws h) ∙ s ∙ start-in-at m l ws k)))
-        (at-upto _ u (λ i k. at-tree-words (domainOf m l ws) m l (slotWords m l i ws) (ok .formed i k) (ok .sound i k)))
+        (at-upto _ u (λ i k. at-tree-words (domainOf m l ws) ws m l (slotWords m l i ws) (ok .formed i k) (ok .sound i k)))
         (at-zeros ws (slotAt m l u) (needed m l (slotsIn ws)) (ok .spare))
 
     pub at-sound-words : soundWordsb ws ≡ true
@@ -125,7 +125,7 @@ module _ (ws : List ℕ) where
   unfolding readCache
   trees-length = trees-in-length m l u ws
 
-  pub tree-read : {i : ℕ} → i < u → tree (readCache ws .trees) i ≡ treeIn m l (slotWords m l i ws)
+  pub tree-read : {i : ℕ} → i < u → tree (readCache ws .trees) i ≡ treeIn ws m l (slotWords m l i ws)
   unfolding readCache
   tree-read h = tree-in-at m l ws h
 

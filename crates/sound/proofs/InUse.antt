@@ -49,18 +49,18 @@ module _ {ws : List ℕ} {i : ℕ} (u : InUse ws i) where
       pub words-formed : Formed l t
       words-formed = rw (el, et) (u .sound .formed i (u .slot))
 
-      pub words-tree : treeOf l t ≡ tree (readCache ws .trees) i
+      pub words-tree : treeOf ws l t ≡ tree (readCache ws .trees) i
       words-tree =
           let own = slotWords (verticesIn ws) (edgesIn ws) i ws in
-          ap₂ (λ (x : ℕ) (y : List ℕ). treeOf x y) el et ∙ tree-of (verticesIn ws) (edgesIn ws) own (slot-words-length has-slot) ∙ sym (tree-read ws (u .slot))
+          ap₂ (λ (x : ℕ) (y : List ℕ). treeOf ws x y) el et ∙ tree-of ws (verticesIn ws) (edgesIn ws) own (slot-words-length has-slot) ∙ sym (tree-read ws (u .slot))
 
       -- what was read of the words was read of the slot's tree
-      pub words-value : {A : Type 0} (f : Tree → A) {r : A} → r ≡ f (treeOf l t) → r ≡ f (tree (readCache ws .trees) i)
+      pub words-value : {A : Type 0} (f : Tree → A) {r : A} → r ≡ f (treeOf ws l t) → r ≡ f (tree (readCache ws .trees) i)
       words-value f e = e ∙ ap f words-tree
 
       -- the nodes used, and one of them
       pub words-used : usedIn t ≡ length (tree (readCache ws .trees) i .nodes)
-      words-used = sym (tree-nodes (length t - closedWordsAt l) l t) ∙ ap (λ (x : Tree). length (x .nodes)) words-tree
+      words-used = sym (tree-nodes ws (length t - closedWordsAt l) l t) ∙ ap (λ (x : Tree). length (x .nodes)) words-tree
 
       module _ (k : ℕ) (h : k < length (tree (readCache ws .trees) i .nodes)) where
         pub words-node-fits : NodeFits (length t) k
@@ -68,10 +68,10 @@ module _ {ws : List ℕ} {i : ℕ} (u : InUse ws i) where
 
         pub words-cost : costIn t k ≡ node (tree (readCache ws .trees) i .nodes) k .cost
         words-cost =
-            sym (ap (λ (x : Node). x .cost) (tree-node (length t - closedWordsAt l) l t k (omega (arith, words-used))))
+            sym (ap (λ (x : Node). x .cost) (tree-node ws (length t - closedWordsAt l) l t k (omega (arith, words-used))))
             ∙ ap (λ (x : Tree). node (x .nodes) k .cost) words-tree
 
-        pub words-solution : (d : Domain) {r : ℕ} → SolutionCostIs d t k r → r ≡ solutionCost d (tree (readCache ws .trees) i .nodes) k
+        pub words-solution : (d : Domain) {r : ℕ} → SolutionCostIs d ws t k r → r ≡ solutionCost d (tree (readCache ws .trees) i .nodes) k
         words-solution d e = e (length t - closedWordsAt l) l ∙ ap (λ (x : Tree). solutionCost d (x .nodes) k) words-tree
 
       pub words-vertex : (k : ℕ) → k < usedIn t → HasVertex l t (vertexIn ws t k)
@@ -82,7 +82,7 @@ module _ {ws : List ℕ} {i : ℕ} (u : InUse ws i) where
             el,
             node-below k (omega (arith, words-used)),
             ap (λ (x : Tree). node (x .nodes) k .vertex) words-tree,
-            ap (λ (x : Node). x .vertex) (tree-node (length t - closedWordsAt l) l t k h),
+            ap (λ (x : Node). x .vertex) (tree-node ws (length t - closedWordsAt l) l t k h),
           )
 
 -- ---- a slot by its places
@@ -117,5 +117,5 @@ pub ready-length : {s : Slot} {ws : List ℕ} → Ready s ws → length (wordsIn
 ready-length {s} {ws} r =
     part-length (slotAt (s .vertices) (s .edges) (s .number)) (treeWords (s .vertices) (s .edges)) ws (omega (arith, r .fits, r .slot .end))
 
-pub tree-lent : {s : Slot} {ws : List ℕ} → Ready s ws → treeOf (s .edges) (midOf (s .at) (s .end - s .at) ws) ≡ treeAt s ws
-tree-lent {s} {ws} r = ap (treeOf (s .edges)) (mid-slot (r .slot) ws) ∙ tree-of (s .vertices) (s .edges) (wordsIn s ws) (ready-length r)
+pub tree-lent : {s : Slot} {ws : List ℕ} → Ready s ws → treeOf ws (s .edges) (midOf (s .at) (s .end - s .at) ws) ≡ treeAt s ws
+tree-lent {s} {ws} r = ap (treeOf ws (s .edges)) (mid-slot (r .slot) ws) ∙ tree-of ws (s .vertices) (s .edges) (wordsIn s ws) (ready-length r)

@@ -27,8 +27,8 @@ module _ (m l : ℕ) (ws : List ℕ) {i n : ℕ} (h : i < n) where
   slot-length fits = part-length (slotAt m l i) (treeWords m l) ws (omega (arith, slot-before m l h))
 
   -- tree i of n, and the vertex at which it starts
-  pub tree-in-at : tree (readTrees m l n ws) i ≡ treeIn m l (slotWords m l i ws)
-  tree-in-at = map-up-at (λ j. treeIn m l (slotWords m l j ws)) noTree n 0 i h ∙ ap (λ (j : ℕ). treeIn m l (slotWords m l j ws)) (omega arith)
+  pub tree-in-at : tree (readTrees m l n ws) i ≡ treeIn ws m l (slotWords m l i ws)
+  tree-in-at = map-up-at (λ j. treeIn ws m l (slotWords m l j ws)) noTree n 0 i h ∙ ap (λ (j : ℕ). treeIn ws m l (slotWords m l j ws)) (omega arith)
 
   pub start-in-at : getD (starts (readTrees m l n ws)) i 0 ≡ startIn (slotWords m l i ws)
   unfolding treeIn

@@ -24,7 +24,7 @@ pub record SoundIn (m l s u : ℕ) (ws : List ℕ) : Type 0 where
   pub held : Held m l ws
   pub differ : (i j : ℕ) → i < u → j < u → startIn (slotWords m l i ws) ≡ startIn (slotWords m l j ws) → i ≡ j
   pub formed : (i : ℕ) → i < u → Formed l (slotWords m l i ws)
-  pub sound : (i : ℕ) → i < u → Sound (domainOf m l ws) (treeIn m l (slotWords m l i ws))
+  pub sound : (i : ℕ) → i < u → Sound (domainOf m l ws) (treeIn ws m l (slotWords m l i ws))
   pub spare : (i : ℕ) → slotAt m l u ≤ i → i < needed m l s → getD ws i 0 ≡ 0
 
 abbrev pub SoundWords : List ℕ → Type 0

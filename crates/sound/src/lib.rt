@@ -1,16 +1,14 @@
 // Whether the words of a cache are sound, as every call asks before it does anything else. Any words may be handed in. The
 // definition stands in `layout`, specs/Sound.antt; header, graph and trees come in its order, and each function answers by
 // clauses of it.
-pub mod trees;
-
-use crate::trees::is_zero;
-use crate::trees::tree_is_sound;
 use layout::slots::slot_words;
 use layout::wide;
 use model::limits::MAX_COST;
 use model::limits::MAX_EDGES;
 use model::limits::MAX_SLOTS;
 use model::limits::MAX_VERTICES;
+use sound_tree::is_zero;
+use sound_tree::tree_is_sound;
 ghost use mathlib.Core.Path.{_≡_};
 ghost use mathlib.Core.Bool.{true, false};
 ghost use Prim.Native.Nat.{_+_, _<_, _≤_};

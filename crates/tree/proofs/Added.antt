@@ -2,7 +2,7 @@
 -- Assumes nothing.
 use mathlib.Core.Path.{_≡_, refl, sym, ap, ap₂, _∙_, subst}
 use mathlib.Core.Logic.{_≢_}
-use mathlib.Core.Bool.{Bool}
+use mathlib.Core.Bool.{Bool, false}
 use mathlib.Core.List.{List, [], _∷_, _++_}
 use Prim.Native.Nat.{ℕ, zero, suc, _+_, _-_, _*_, _/_, _<_, _≤_}
 use native.Mathlib.Omega.{arith}
@@ -13,7 +13,7 @@ use lib.Seq.{sets, length-sets, getD-set-same, getD-set-other, getD-at, ext-getD
 use borrow.Author.Tests.{le-leb, lt-leb}
 use Rattle.model.specs.Tree.{Node, noNode, closedAt, evaluationOf, closedWithin, appended, pushIf, pushNode}
 use Rattle.model.proofs.Worth.{evaluation-same}
-use Rattle.layout.specs.Layout.{startAt, usedAt, queuedAt, queuedIn, usedIn, nodeSize, nodeAt, NodeFits, queueAt, queueWordIn, closedWordsAt}
+use Rattle.layout.specs.Layout.{startAt, usedAt, queuedAt, queuedIn, usedIn, nodeSize, nodeAt, NodeFits, queueAt, queueWordIn, closedWordsAt, closedWordIn}
 use Rattle.layout.specs.Words.{nodeWords}
 use Rattle.layout.specs.Read.{nodeIn, nodesIn, treeIn}
 use Rattle.layout.proofs.Trees.{nodes-in-length, node-at, words-node, nodes-same}
@@ -23,10 +23,10 @@ use Rattle.queue.proofs.Times.{one-same, one-other, times-ext, place-times}
 use Rattle.tree.specs.declared.Node.{Node as NodeWords}
 use Rattle.tree.specs.declared.partial_keyed_closed_set.ClosedStatus.{ClosedStatus}
 use Rattle.tree.specs.declared.partial_keyed_closed_set.ClosedStatus.the-variants.{Open, Closed}
-use Rattle.tree.specs.Tree.{treeOf, nodeOf, Formed, statusOf, CanAdd, CanPushNode, HoldsTree}
+use Rattle.tree.specs.Tree.{treeOf, nodeOf, Formed, statusOf, CanAdd, CanPushNode, Adds, PushesNode}
 use Rattle.tree.proofs.Same.{closed-same}
 use Rattle.tree.proofs.Waiting.{waits, waiting-pushed, waits-node}
-use Rattle.tree.proofs.Closed.{open-word, closer-word, closer-used, node-fits, node-cost}
+use Rattle.tree.proofs.Closed.{tree-word, open-word, closer-word, closer-used, node-fits, node-cost}
 
 -- ---- words stored in a row
 
@@ -53,17 +53,17 @@ getD-sets-at (a ∷ vs) l i (suc k) j e h f = getD-sets-at vs (set l i a) (suc i
 
 -- ---- the nodes, read
 
-nodes-next : (n : ℕ) (t : List ℕ) → nodesIn (n + 1) t ≡ nodesIn n t ++ (nodeIn t n ∷ [])
-nodes-next n t =
-    let old = nodesIn n t in
-    let new = nodeIn t n in
-    let few = nodes-in-length n t in
-    let all = nodes-in-length (n + 1) t in
-    ext-getD noNode (nodesIn (n + 1) t) (old ++ (new ∷ [])) (omega (arith, all, few, length-append old (new ∷ []))) (λ k b. elim (ℕ-discrete k n) [
-      | yes e ↦ rw e (node-at (n + 1) t n (omega arith) ∙ sym (getD-at old new [] noNode n few))
+nodes-next : (ws : List ℕ) (n : ℕ) (t : List ℕ) → nodesIn ws (n + 1) t ≡ nodesIn ws n t ++ (nodeIn ws t n ∷ [])
+nodes-next ws n t =
+    let old = nodesIn ws n t in
+    let new = nodeIn ws t n in
+    let few = nodes-in-length ws n t in
+    let all = nodes-in-length ws (n + 1) t in
+    ext-getD noNode (nodesIn ws (n + 1) t) (old ++ (new ∷ [])) (omega (arith, all, few, length-append old (new ∷ []))) (λ k b. elim (ℕ-discrete k n) [
+      | yes e ↦ rw e (node-at ws (n + 1) t n (omega arith) ∙ sym (getD-at old new [] noNode n few))
       | no ne ↦
           let less : k < n = omega (arith, all) in
-          node-at (n + 1) t k (omega arith) ∙ sym (node-at n t k less) ∙ sym (List·getD-append old (new ∷ []) noNode k (omega (arith, few)))
+          node-at ws (n + 1) t k (omega arith) ∙ sym (node-at ws n t k less) ∙ sym (List·getD-append old (new ∷ []) noNode k (omega (arith, few)))
     ])
 
 -- ---- the node's words and the count
@@ -188,29 +188,29 @@ module _ {l : ℕ} {s : List ℕ} (h : CanAdd l s) (x : NodeWords) where
 
     -- ---- the tree
 
-    new-node : nodeIn t (usedIn s) ≡ nodeOf x
-    new-node = words-node t (usedIn s) (nodeOf x) (λ k k4. p .below (at + k) (omega arith) (omega arith) ∙ with-word (at + k) k refl k4)
+    new-node : (ws : List ℕ) → nodeIn ws t (usedIn s) ≡ nodeOf x
+    new-node ws = words-node ws t (usedIn s) (nodeOf x) (λ k k4. p .below (at + k) (omega arith) (omega arith) ∙ with-word (at + k) k refl k4)
 
-    tree : treeOf l t ≡ appended (treeOf l s) (nodeOf x)
+    tree : (ws : List ℕ) → treeOf ws l t ≡ appended (treeOf ws l s) (nodeOf x)
     unfolding treeIn
-    tree = λ i. record { start = start i; nodes = nodes i; waiting = waiting i; closed = closed-same l s t len (λ j b. behind j (omega (arith, queued))) i }
+    tree ws = λ i. record { start = start i; nodes = nodes i; waiting = waiting i; closed = closed-same ws l s t len (λ j b. behind j (omega (arith, queued))) i }
       where
-        start : treeOf l t .start ≡ treeOf l s .start
+        start : treeOf ws l t .start ≡ treeOf ws l s .start
         start = kept startAt (omega arith) (omega arith) (λ k k4 e. omega arith) (omega arith)
 
-        nodes : treeOf l t .nodes ≡ treeOf l s .nodes ++ (nodeOf x ∷ [])
+        nodes : treeOf ws l t .nodes ≡ treeOf ws l s .nodes ++ (nodeOf x ∷ [])
         nodes =
-            ap (λ (n : ℕ). nodesIn n t) used
-            ∙ nodes-next (usedIn s) t
+            ap (λ (n : ℕ). nodesIn ws n t) used
+            ∙ nodes-next ws (usedIn s) t
             ∙ ap₂
             (λ (ns : List Node) (y : Node). ns ++ (y ∷ []))
-            (nodes-same (usedIn s) s t (λ j a b. kept j (omega arith) (omega arith) (λ k k4 e. omega arith) (omega arith)))
-            new-node
+            (nodes-same ws (usedIn s) s t (λ j a b. kept j (omega arith) (omega arith) (λ k k4 e. omega arith) (omega arith)))
+            (new-node ws)
 
-        waiting : treeOf l t .waiting ≡ treeOf l s .waiting ++ (length (treeOf l s .nodes) ∷ [])
+        waiting : treeOf ws l t .waiting ≡ treeOf ws l s .waiting ++ (length (treeOf ws l s .nodes) ∷ [])
         waiting =
-            waiting-pushed l s t (omega arith) (p .queue .room .fits) used counts
-            ∙ ap (λ (n : ℕ). treeOf l s .waiting ++ (n ∷ [])) (sym (nodes-in-length (usedIn s) s))
+            waiting-pushed ws l s t (omega arith) (p .queue .room .fits) used counts
+            ∙ ap (λ (n : ℕ). treeOf ws l s .waiting ++ (n ∷ [])) (sym (nodes-in-length ws (usedIn s) s))
 
 -- ---- the calls
 
@@ -223,7 +223,7 @@ module _ {l : ℕ} {s : List ℕ} (h : CanAdd l s) (x : NodeWords) {n q : ℕ} {
   pub can-queue : CanPush (set w usedAt (usedIn s + 1)) q (usedIn s)
   can-queue = rw (same, b) (with-pushes h x)
 
-  pub node-added : {t : List ℕ} → Pushed (set w usedAt (usedIn s + 1)) t q (usedIn s) → HoldsTree l t (appended (treeOf l s) (nodeOf x))
+  pub node-added : {t : List ℕ} → Pushed (set w usedAt (usedIn s + 1)) t q (usedIn s) → Adds l s t (nodeOf x)
   node-added {t} p =
       let pushed : Pushed (withNode s x) t (queueAt l) (usedIn s) = rw (same, b) at p in
       record { tree = tree h x pushed; formed = formed h x pushed }
@@ -231,22 +231,25 @@ module _ {l : ℕ} {s : List ℕ} (h : CanAdd l s) (x : NodeWords) {n q : ℕ} {
 -- ---- unless the vertex is closed at no greater cost
 
 -- r: the status of the node's vertex v
-module _ {l : ℕ} {s : List ℕ} {x : NodeWords} (c : CanPushNode l s x) {v : ℕ} (e : v ≡ x .vertex) {r : ClosedStatus} (is : r ≡ statusOf (closedAt (treeOf l s .closed) v)) where
+module _ {l : ℕ} {s : List ℕ} {x : NodeWords} (c : CanPushNode l s x) {v : ℕ} (e : v ≡ x .vertex) {r : ClosedStatus} (is : r ≡ statusOf (closedWordIn l s v)) where
   abbrev word : ℕ
-  word = closedAt (treeOf l s .closed) (x .vertex)
+  word = closedWordIn l s (x .vertex)
 
   abbrev new : ℕ
   new = evaluationOf (nodeOf x)
 
   status-is : r ≡ statusOf word
-  status-is = is ∙ ap (λ (n : ℕ). statusOf (closedAt (treeOf l s .closed) n)) e
+  status-is = is ∙ ap (λ (n : ℕ). statusOf (closedWordIn l s n)) e
 
-  push-is : {b : Bool} → closedWithin (treeOf l s .nodes) new word ≡ b → pushIf b (treeOf l s) (nodeOf x) ≡ pushNode (treeOf l s) (nodeOf x)
+  push-is : (ws : List ℕ) {b : Bool} → closedWithin (treeOf ws l s .nodes) new word ≡ b → pushIf b (treeOf ws l s) (nodeOf x) ≡ pushNode (treeOf ws l s) (nodeOf x)
   unfolding pushNode
-  push-is q = ap (λ (b : Bool). pushIf b (treeOf l s) (nodeOf x)) (sym q)
+  push-is ws q = ap (λ (b : Bool). pushIf b (treeOf ws l s) (nodeOf x)) (sym (ap (closedWithin (treeOf ws l s .nodes) new) (tree-word ws l s (x .vertex) (c .vertex)) ∙ q))
 
-  pub push-open : r ≡ Open → {t : List ℕ} → HoldsTree l t (appended (treeOf l s) (nodeOf x)) → HoldsTree l t (pushNode (treeOf l s) (nodeOf x))
-  push-open o {t} held = subst (HoldsTree l t) (push-is (ap (closedWithin (treeOf l s .nodes) new) (open-word word (sym o ∙ status-is)))) held
+  added : {t : List ℕ} → ((ws : List ℕ) → closedWithin (treeOf ws l s .nodes) new word ≡ false) → Adds l s t (nodeOf x) → PushesNode l s t (nodeOf x)
+  added q held = record { tree = λ ws. held .tree ws ∙ push-is ws (q ws); formed = held .formed }
+
+  pub push-open : r ≡ Open → {t : List ℕ} → Adds l s t (nodeOf x) → PushesNode l s t (nodeOf x)
+  push-open o {t} held = added (λ ws. ap (closedWithin (treeOf ws l s .nodes) new) (open-word word (sym o ∙ status-is))) held
 
   -- closed by node n
   module _ {n : ℕ} (o : r ≡ Closed n) where
@@ -261,13 +264,13 @@ module _ {l : ℕ} {s : List ℕ} {x : NodeWords} (c : CanPushNode l s x) {v : �
 
     -- of evaluation k, where the new node's is j
     module _ {k j : ℕ} (q : k ≡ evaluationIn s n) (p : j ≡ evaluationOf (figures (x .cost))) where
-      test : closedWithin (treeOf l s .nodes) new word ≡ leb k j
-      test =
-          ap (closedWithin (treeOf l s .nodes) new) closer
-          ∙ ap₂ leb (node-cost _ l s n used-node ∙ sym q) (evaluation-same (nodeOf x) (figures (x .cost)) refl ∙ sym p)
+      test : (ws : List ℕ) → closedWithin (treeOf ws l s .nodes) new word ≡ leb k j
+      test ws =
+          ap (closedWithin (treeOf ws l s .nodes) new) closer
+          ∙ ap₂ leb (node-cost ws _ l s n used-node ∙ sym q) (evaluation-same (nodeOf x) (figures (x .cost)) refl ∙ sym p)
 
-      pub push-within : k ≤ j → HoldsTree l s (pushNode (treeOf l s) (nodeOf x))
-      push-within h = record { tree = push-is (test ∙ le-leb k j h); formed = c .add .formed }
+      pub push-within : k ≤ j → PushesNode l s s (nodeOf x)
+      push-within h = record { tree = λ ws. push-is ws (test ws ∙ le-leb k j h); formed = c .add .formed }
 
-      pub push-above : j < k → {t : List ℕ} → HoldsTree l t (appended (treeOf l s) (nodeOf x)) → HoldsTree l t (pushNode (treeOf l s) (nodeOf x))
-      push-above h {t} held = subst (HoldsTree l t) (push-is (test ∙ lt-leb k j h)) held
+      pub push-above : j < k → {t : List ℕ} → Adds l s t (nodeOf x) → PushesNode l s t (nodeOf x)
+      push-above h {t} held = added (λ ws. test ws ∙ lt-leb k j h) held

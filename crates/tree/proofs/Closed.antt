@@ -23,18 +23,26 @@ use Rattle.tree.specs.Tree.{treeOf, Formed, HasVertex, statusOf, CanClos
 -- ---- a closed word; the words start at place a
 
 module _ (l : ℕ) (t : List ℕ) (v a : ℕ) (h : HasVertex l t v) (e : a ≡ closedWordsAt l) where
-  pub closed-word : closedAt (treeOf l t .closed) v ≡ getD t (a + v) 0
-  closed-word = tree-closed (length t - closedWordsAt l) l t v (omega arith) ∙ ap (λ (x : ℕ). getD t (x + v) 0) (sym e)
+  pub closed-word : (ws : List ℕ) → closedAt (treeOf ws l t .closed) v ≡ getD t (a + v) 0
+  closed-word ws = tree-closed ws (length t - closedWordsAt l) l t v (omega arith) ∙ ap (λ (x : ℕ). getD t (x + v) 0) (sym e)
 
-  pub status-open : getD t (a + v) 0 ≡ 0 → Open ≡ statusOf (closedAt (treeOf l t .closed) v)
-  status-open z = sym (ap statusOf (closed-word ∙ z))
+  -- the same word, by its name
+  named : closedWordIn l t v ≡ getD t (a + v) 0
+  named = ap (λ (x : ℕ). getD t (x + v) 0) (sym e)
 
-  pub status-closed : getD t (a + v) 0 ≢ 0 → Closed (getD t (a + v) 0 - 1) ≡ statusOf (closedAt (treeOf l t .closed) v)
-  status-closed = go (getD t (a + v) 0) closed-word
+  pub status-open : getD t (a + v) 0 ≡ 0 → Open ≡ statusOf (closedWordIn l t v)
+  status-open z = sym (ap statusOf (named ∙ z))
+
+  pub status-closed : getD t (a + v) 0 ≢ 0 → Closed (getD t (a + v) 0 - 1) ≡ statusOf (closedWordIn l t v)
+  status-closed = go (getD t (a + v) 0) named
     where
-      go : (n : ℕ) → closedAt (treeOf l t .closed) v ≡ n → n ≢ 0 → Closed (n - 1) ≡ statusOf (closedAt (treeOf l t .closed) v)
+      go : (n : ℕ) → closedWordIn l t v ≡ n → n ≢ 0 → Closed (n - 1) ≡ statusOf (closedWordIn l t v)
       go zero w ne = absurd (ne refl)
       go (suc n) w ne = ap Closed (omega arith) ∙ sym (ap statusOf w)
+
+-- the word that a tree has for a vertex
+pub tree-word : (ws : List ℕ) (l : ℕ) (t : List ℕ) (v : ℕ) → HasVertex l t v → closedAt (treeOf ws l t .closed) v ≡ closedWordIn l t v
+tree-word ws l t v h = closed-word l t v (closedWordsAt l) h refl ws
 
 -- the word by the status
 
@@ -48,8 +56,8 @@ closer-word (suc n) k e = ap suc cc
 
 -- ---- the node that closed a vertex; nodes and queue words are within the words
 
-pub closer-used : {l k : ℕ} {t : List ℕ} (v : ℕ) → Formed l t → HasVertex l t v → closedAt (treeOf l t .closed) v ≡ suc k → k < usedIn t
-closer-used {l} {k} {t} v f h e = omega (arith, e, closed-word l t v (closedWordsAt l) h refl, f .closers v h)
+pub closer-used : {l k : ℕ} {t : List ℕ} (v : ℕ) → Formed l t → HasVertex l t v → closedWordIn l t v ≡ suc k → k < usedIn t
+closer-used v f h e = omega (arith, e, f .closers v h)
 
 pub node-fits : {l k : ℕ} {t : List ℕ} → Formed l t → k < usedIn t → NodeFits (length t) k
 node-fits f h = omega (arith, f .used, f .fits)
@@ -57,8 +65,8 @@ node-fits f h = omega (arith, f .used, f .fits)
 pub queue-fits : {l : ℕ} {t : List ℕ} → Formed l t → queueAt l + queuedIn t ≤ length t
 queue-fits f = omega (arith, f .queued, f .used, f .fits)
 
-pub node-cost : (m l : ℕ) (t : List ℕ) (k : ℕ) → k < usedIn t → evaluation (treeIn m l t .nodes) k ≡ evaluationIn t k
-node-cost m l t k h = ap evaluationOf (tree-node m l t k h) ∙ node-evaluation t k
+pub node-cost : (ws : List ℕ) (m l : ℕ) (t : List ℕ) (k : ℕ) → k < usedIn t → evaluation (treeIn ws m l t .nodes) k ≡ evaluationIn t k
+node-cost ws m l t k h = ap evaluationOf (tree-node ws m l t k h) ∙ node-evaluation ws t k
 
 -- ---- closing a vertex
 
@@ -114,19 +122,19 @@ module _ {l : ℕ} {s : List ℕ} {v n : ℕ} (c : CanClose l s v n) where
     spare-queue = λ i low high. same i high ∙ f .spare-queue i (omega (arith, queued)) high;
   }
 
-  close-tree : treeOf l closing ≡ close (treeOf l s) v n
+  close-tree : (ws : List ℕ) → treeOf ws l closing ≡ close (treeOf ws l s) v n
   unfolding treeIn close
-  close-tree = λ i. record {
+  close-tree ws = λ i. record {
     start = same startAt (omega arith) i;
     nodes = nodes i;
     waiting = those (λ k. mem k (queue i)) (numbers (used i));
     closed = closed i;
   }
     where
-      nodes : nodesIn (usedIn closing) closing ≡ nodesIn (usedIn s) s
+      nodes : nodesIn ws (usedIn closing) closing ≡ nodesIn ws (usedIn s) s
       nodes =
-          ap (λ (k : ℕ). nodesIn k closing) used
-          ∙ nodes-same (usedIn s) s closing (λ p _ h. same p (omega (arith, c .formed .used)))
+          ap (λ (k : ℕ). nodesIn ws k closing) used
+          ∙ nodes-same ws (usedIn s) s closing (λ p _ h. same p (omega (arith, c .formed .used)))
 
       queue : part (queueAt l) (queuedIn closing) closing ≡ part (queueAt l) (queuedIn s) s
       queue =
@@ -146,10 +154,10 @@ module _ {l : ℕ} {s : List ℕ} {v n : ℕ} (c : CanClose l s v n) where
 module _ {l : ℕ} {s : List ℕ} {v n a : ℕ} (c : CanClose l s v n) (e : a ≡ closedWordsAt l) where
   pub close-new : getD s (a + v) 0 ≡ 0 → Closes l s (set s (a + v) (n + 1)) v n
   close-new z = record {
-    before = closed-word l s v a (c .vertex) e ∙ z;
+    before = ap (λ (x : ℕ). getD s (x + v) 0) (sym e) ∙ z;
     tree = rw e (close-tree c);
     formed = rw e (close-formed c);
   }
 
-  pub close-old : getD s (a + v) 0 ≢ 0 → 0 < closedAt (treeOf l s .closed) v
-  close-old ne = omega (arith, closed-word l s v a (c .vertex) e)
+  pub close-old : getD s (a + v) 0 ≢ 0 → 0 < closedWordIn l s v
+  close-old ne = omega (arith, ap (λ (x : ℕ). getD s (x + v) 0) e)

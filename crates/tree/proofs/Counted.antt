@@ -19,14 +19,14 @@ use Rattle.tree.specs.Tree.{treeOf, Formed}
 pub record Counted (l : ℕ) (t : List ℕ) (k p : ℕ) : Type 0 where
   pub few : closedWordsAt l + k ≤ p
   pub within : p ≤ length t
-  pub count : p + closedCount (drop p t) ≡ closedWordsAt l + k + closedCount (treeOf l t .closed)
+  pub count : (ws : List ℕ) → p + closedCount (drop p t) ≡ closedWordsAt l + k + closedCount (treeOf ws l t .closed)
 
 pub counted-none : {l p : ℕ} {t : List ℕ} → Formed l t → p ≡ closedWordsAt l → Counted l t 0 p
 unfolding treeIn
 counted-none {l} {p} {t} f e = record {
   few = omega arith;
   within = omega (arith, f .fits);
-  count = omega (
+  count = λ ws. omega (
     arith,
     ap (λ (x : ℕ). closedCount (drop x t)) e,
     ap closedCount (take-all (length t - closedWordsAt l) (drop (closedWordsAt l) t) (omega (arith, length-drop (closedWordsAt l) t))),
@@ -46,11 +46,11 @@ module _ (t : List ℕ) (p : ℕ) (h : p < length t) where
 
 module _ {l k p : ℕ} {t : List ℕ} (c : Counted l t k p) (h : p < length t) where
   pub counted-closed : {n : ℕ} → getD t p 0 ≢ 0 → n ≡ k → Counted l t n (p + 1)
-  counted-closed ne e = record { few = omega arith; within = omega arith; count = omega (arith, closed-next t p h ne) }
+  counted-closed ne e = record { few = omega arith; within = omega arith; count = λ ws. omega (arith, c .count ws, closed-next t p h ne) }
 
   pub counted-open : {n : ℕ} → getD t p 0 ≡ 0 → n ≡ k + 1 → Counted l t n (p + 1)
-  counted-open z e = record { few = omega arith; within = omega arith; count = omega (arith, open-next t p h z) }
+  counted-open z e = record { few = omega arith; within = omega arith; count = λ ws. omega (arith, c .count ws, open-next t p h z) }
 
-pub counted-all : {l k p : ℕ} {t : List ℕ} → Counted l t k p → length t ≤ p → length t - closedWordsAt l - k ≡ closedCount (treeOf l t .closed)
+pub counted-all : {l k p : ℕ} {t : List ℕ} → Counted l t k p → length t ≤ p → (ws : List ℕ) → length t - closedWordsAt l - k ≡ closedCount (treeOf ws l t .closed)
 unfolding closedCount
-counted-all {l} {k} {p} {t} c h = omega (arith, c .count, ap closedCount (drop-of-length-le t h))
+counted-all {l} {k} {p} {t} c h ws = omega (arith, c .count ws, ap closedCount (drop-of-length-le t h))

@@ -28,12 +28,12 @@ use Rattle.tree.proofs.Closed.{queue-fits}
 
 -- ---- the queue's order
 
-pub precedes-key : (t : List ℕ) (a b : ℕ) → usedIn t ≤ 4294967295 → a < usedIn t → b < usedIn t
-    → precedes (nodesIn (usedIn t) t) a b ≡ ltb (key t a) (key t b)
-precedes-key t a b few ha hb = go _ _ (cost a ha) (cost b hb)
+pub precedes-key : (ws t : List ℕ) (a b : ℕ) → usedIn t ≤ 4294967295 → a < usedIn t → b < usedIn t
+    → precedes (nodesIn ws (usedIn t) t) a b ≡ ltb (key t a) (key t b)
+precedes-key ws t a b few ha hb = go _ _ (cost a ha) (cost b hb)
   where
-    cost : (k : ℕ) → k < usedIn t → evaluation (nodesIn (usedIn t) t) k ≡ evaluationIn t k
-    cost k h = ap evaluationOf (node-at (usedIn t) t k h) ∙ node-evaluation t k
+    cost : (k : ℕ) → k < usedIn t → evaluation (nodesIn ws (usedIn t) t) k ≡ evaluationIn t k
+    cost k h = ap evaluationOf (node-at ws (usedIn t) t k h) ∙ node-evaluation ws t k
 
     go : (x y : ℕ) → x ≡ evaluationIn t a → y ≡ evaluationIn t b → (ltb x y || (eqb x y && ltb a b)) ≡ ltb (key t a) (key t b)
     go x y ex ey = elim (decLt x y) [
@@ -45,25 +45,25 @@ precedes-key t a b few ha hb = go _ _ (cost a ha) (cost b hb)
     ]
 
 -- heap order
-module _ (l : ℕ) (t : List ℕ) (fits : queueAt l + queuedIn t ≤ length t) (few : usedIn t ≤ 4294967295)
+module _ (ws : List ℕ) (l : ℕ) (t : List ℕ) (fits : queueAt l + queuedIn t ≤ length t) (few : usedIn t ≤ 4294967295)
     (below : (i : ℕ) → i < queuedIn t → queueWordIn l t i < usedIn t) where
   all : length (queueIn l t) ≡ queuedIn t
   all = part-length (queueAt l) (queuedIn t) t fits
 
   ranks : (i j : ℕ) → i < queuedIn t → j < queuedIn t
-      → precedes (nodesIn (usedIn t) t) (getD (queueIn l t) i 0) (getD (queueIn l t) j 0) ≡ ltb (rank t (queueAt l) i) (rank t (queueAt l) j)
+      → precedes (nodesIn ws (usedIn t) t) (getD (queueIn l t) i 0) (getD (queueIn l t) j 0) ≡ ltb (rank t (queueAt l) i) (rank t (queueAt l) j)
   unfolding rank
   ranks i j h k =
-      ap₂ (precedes (nodesIn (usedIn t) t)) (part-at (queueAt l) (queuedIn t) t i h) (part-at (queueAt l) (queuedIn t) t j k)
-      ∙ precedes-key t _ _ few (below i h) (below j k)
+      ap₂ (precedes (nodesIn ws (usedIn t) t)) (part-at (queueAt l) (queuedIn t) t i h) (part-at (queueAt l) (queuedIn t) t j k)
+      ∙ precedes-key ws t _ _ few (below i h) (below j k)
 
-  pub heap-at : heapb (nodesIn (usedIn t) t) (queueIn l t) ≡ true → Heap (rank t (queueAt l)) (queuedIn t)
+  pub heap-at : heapb (nodesIn ws (usedIn t) t) (queueIn l t) ≡ true → Heap (rank t (queueAt l)) (queuedIn t)
   heap-at e i pos h = elim (or-cases (eqb i 0) _ (upto-at _ (length (queueIn l t)) e i (omega (arith, all)))) [
     | inl z ↦ absurd (omega (arith, eqb-true i 0 z))
     | inr z ↦ ltb-false _ _ (sym (ranks i ((i - 1) / 2) h (omega arith)) ∙ not-true _ z)
   ]
 
-  at-heap : Heap (rank t (queueAt l)) (queuedIn t) → heapb (nodesIn (usedIn t) t) (queueIn l t) ≡ true
+  at-heap : Heap (rank t (queueAt l)) (queuedIn t) → heapb (nodesIn ws (usedIn t) t) (queueIn l t) ≡ true
   at-heap heap = at-upto _ (length (queueIn l t)) (λ i h.
       let k : i < queuedIn t = omega (arith, all) in
       elim (ℕ-discrete i 0) [
@@ -100,9 +100,9 @@ listed-length u (x ∷ xs) b d =
       listed-length u xs (low .1) (new .1),
     )
 
-module _ (l : ℕ) (t : List ℕ) (fits : queueAt l + queuedIn t ≤ length t)
+module _ (ws : List ℕ) (l : ℕ) (t : List ℕ) (fits : queueAt l + queuedIn t ≤ length t)
     (below : (i : ℕ) → i < queuedIn t → queueWordIn l t i < usedIn t) (once : (x : ℕ) → times t (queueAt l) (queuedIn t) x ≤ 1) where
-  pub waiting-length : length (treeOf l t .waiting) ≡ queuedIn t
+  pub waiting-length : length (treeOf ws l t .waiting) ≡ queuedIn t
   unfolding treeIn
   waiting-length =
       listed-length (usedIn t) (queueIn l t) (at-below t (queueAt l) (queuedIn t) (usedIn t) fits below) (once-distinct t (queueAt l) (queuedIn t) fits once)
@@ -115,12 +115,12 @@ module _ (l : ℕ) (t : List ℕ) (fits : queueAt l + queuedIn t ≤ length t)
 
 -- ---- the whole
 
-pub formed-at : (l : ℕ) (t : List ℕ) → l ≤ 2048 → closedWordsAt l ≤ length t → length t ≤ closedWordsAt l + 1024
-    → ((v : ℕ) → closedWordsAt l + v < length t → closedWordIn l t v ≤ usedIn t) → formedb l t ≡ true → Formed l t
+pub formed-at : (ws : List ℕ) (l : ℕ) (t : List ℕ) → l ≤ 2048 → closedWordsAt l ≤ length t → length t ≤ closedWordsAt l + 1024
+    → ((v : ℕ) → closedWordsAt l + v < length t → closedWordIn l t v ≤ usedIn t) → formedb ws l t ≡ true → Formed l t
 unfolding formedb
-formed-at l t edges fits vertices closers e =
-    let r = all-true (formTests l t) e in
-    let queue = all-true (queueTests l t (queuedIn t)) (r .1 .1 .0) in
+formed-at ws l t edges fits vertices closers e =
+    let r = all-true (formTests ws l t) e in
+    let queue = all-true (queueTests ws l t (queuedIn t)) (r .1 .1 .0) in
     let spare = all-true (spareTests l t) (r .1 .1 .1 .0) in
     let used : usedIn t ≤ 1 + l = leb-true _ _ (r .0) in
     let room : queuedIn t ≤ 1 + l = leb-true _ _ (r .1 .0) in
@@ -132,26 +132,26 @@ formed-at l t edges fits vertices closers e =
       fits = fits;
       vertices = vertices;
       used = used;
-      queued = waiting-fit l t fit below once;
+      queued = waiting-fit ws l t fit below once;
       nodes = below;
       once = once;
-      heap = heap-at l t fit (omega arith) below (queue .1 .1 .0);
+      heap = heap-at ws l t fit (omega arith) below (queue .1 .1 .0);
       closers = closers;
       spare-nodes = zeros-at t (nodeAt (usedIn t)) (queueAt l) (spare .0);
       spare-queue = zeros-at t (queueAt l + queuedIn t) (closedWordsAt l) (spare .1 .0);
     }
 
-pub at-formed : (l : ℕ) (t : List ℕ) → Formed l t → formedb l t ≡ true
+pub at-formed : (ws : List ℕ) (l : ℕ) (t : List ℕ) → Formed l t → formedb ws l t ≡ true
 unfolding formedb
-at-formed l t f =
+at-formed ws l t f =
     let fit : queueAt l + queuedIn t ≤ length t = queue-fits f in
-    true-given (formTests l t)
+    true-given (formTests ws l t)
     (le-leb _ _ (f .used))
     (le-leb (queuedIn t) (1 + l) (omega (arith, f .queued, f .used)))
-    (true-given (queueTests l t (queuedIn t))
+    (true-given (queueTests ws l t (queuedIn t))
     (at-below t (queueAt l) (queuedIn t) (usedIn t) fit (f .nodes))
     (once-distinct t (queueAt l) (queuedIn t) fit (f .once))
-    (at-heap l t fit (omega (arith, f .used, f .edges)) (f .nodes) (f .heap)))
+    (at-heap ws l t fit (omega (arith, f .used, f .edges)) (f .nodes) (f .heap)))
     (true-given (spareTests l t)
     (at-zeros t (nodeAt (usedIn t)) (queueAt l) (f .spare-nodes))
     (at-zeros t (queueAt l + queuedIn t) (closedWordsAt l) (f .spare-queue)))

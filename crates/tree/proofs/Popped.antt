@@ -45,29 +45,29 @@ least-one ns (y ∷ ys) x m f =
     ap some (before-one ns n x nx (f n there))
 
 -- the order of keys is the order of tickets
-key-before : (l : ℕ) (t : List ℕ) (a b : ℕ) → Formed l t → a < usedIn t → b < usedIn t → key t a ≤ key t b → Before (treeOf l t .nodes) a b
+key-before : (ws : List ℕ) (l : ℕ) (t : List ℕ) (a b : ℕ) → Formed l t → a < usedIn t → b < usedIn t → key t a ≤ key t b → Before (treeOf ws l t .nodes) a b
 unfolding key
-key-before l t a b f ha hb h = elim (decLt (evaluationIn t a) (evaluationIn t b)) [
+key-before ws l t a b f ha hb h = elim (decLt (evaluationIn t a) (evaluationIn t b)) [
   | yes less ↦ inl (omega (arith, cost a ha, cost b hb))
   | no more ↦ inr (omega (arith, cost a ha, cost b hb))
 ]
   where
-    cost : (k : ℕ) → k < usedIn t → evaluation (treeOf l t .nodes) k ≡ evaluationIn t k
-    cost = node-cost _ l t
+    cost : (k : ℕ) → k < usedIn t → evaluation (treeOf ws l t .nodes) k ≡ evaluationIn t k
+    cost = node-cost ws _ l t
 
 -- a waiting node with no lesser key than its own among those that wait is the least
-pub least-key : {l : ℕ} {t : List ℕ} → Formed l t → (k : ℕ) → 0 < waits l t k → ((x : ℕ) → 0 < waits l t x → key t k ≤ key t x)
-    → least (treeOf l t .nodes) (treeOf l t .waiting) ≡ some k
-least-key {l} {t} f k w h =
-    least-one (treeOf l t .nodes) (treeOf l t .waiting) k (waiting-has l t (queue-fits f) k (waits-node f k w) w)
-    (λ j m. let v = waiting-mem l t (queue-fits f) j m in key-before l t k j f (waits-node f k w) (waits-node f j v) (h j v))
+pub least-key : (ws : List ℕ) {l : ℕ} {t : List ℕ} → Formed l t → (k : ℕ) → 0 < waits l t k → ((x : ℕ) → 0 < waits l t x → key t k ≤ key t x)
+    → least (treeOf ws l t .nodes) (treeOf ws l t .waiting) ≡ some k
+least-key ws {l} {t} f k w h =
+    least-one (treeOf ws l t .nodes) (treeOf ws l t .waiting) k (waiting-has ws l t (queue-fits f) k (waits-node f k w) w)
+    (λ j m. let v = waiting-mem ws l t (queue-fits f) j m in key-before ws l t k j f (waits-node f k w) (waits-node f j v) (h j v))
 
 -- with no queue word there is none
-pub least-none : (l : ℕ) (s : List ℕ) → Formed l s → queuedIn s ≡ 0 → least (treeOf l s .nodes) (treeOf l s .waiting) ≡ none
+pub least-none : (ws : List ℕ) (l : ℕ) (s : List ℕ) → Formed l s → queuedIn s ≡ 0 → least (treeOf ws l s .nodes) (treeOf ws l s .waiting) ≡ none
 unfolding least
-least-none l s f e = go (treeOf l s .waiting) (waiting-mem l s (queue-fits f))
+least-none ws l s f e = go (treeOf ws l s .waiting) (waiting-mem ws l s (queue-fits f))
   where
-    go : (q : List ℕ) → ((x : ℕ) → List·Memᴰ x q → 0 < waits l s x) → least (treeOf l s .nodes) q ≡ none
+    go : (q : List ℕ) → ((x : ℕ) → List·Memᴰ x q → 0 < waits l s x) → least (treeOf ws l s .nodes) q ≡ none
     go [] h = refl
     go (x ∷ xs) h = absurd (omega (arith, times-place s (queueAt l) (queuedIn s) x (h x (List·Memᴰ·head refl)) .1))
 
@@ -87,8 +87,8 @@ module _ {l k m : ℕ} {s t : List ℕ} (f : Formed l s) (p : Taken s t (queueAt
   unfolding rank
   first-least x h = let i = times-place s (queueAt l) (queuedIn s) x h in rw (i .2) at (p .least (i .0) (omega (arith, i .1)))
 
-  taken-first : least (treeOf l s .nodes) (treeOf l s .waiting) ≡ some k
-  taken-first = least-key f k waits-first first-least
+  taken-first : (ws : List ℕ) → least (treeOf ws l s .nodes) (treeOf ws l s .waiting) ≡ some k
+  taken-first ws = least-key ws f k waits-first first-least
 
   taken-formed : Formed l t
   taken-formed = record {
@@ -108,17 +108,17 @@ module _ {l k m : ℕ} {s t : List ℕ} (f : Formed l s) (p : Taken s t (queueAt
     ];
   }
 
-  taken-tree : treeOf l t ≡ popped (treeOf l s) k
+  taken-tree : (ws : List ℕ) → treeOf ws l t ≡ popped (treeOf ws l s) k
   unfolding treeIn popped
-  taken-tree = λ i. record {
+  taken-tree ws = λ i. record {
     start = p .below startAt (omega arith) (omega arith) i;
     nodes = same-nodes i;
-    waiting = waiting-popped l s t (queue-fits f) (p .queue .room .fits) k used counts (f .once k) i;
-    closed = closed-same l s t (p .len) (λ j h. p .above j (omega arith)) i;
+    waiting = waiting-popped ws l s t (queue-fits f) (p .queue .room .fits) k used counts (f .once k) i;
+    closed = closed-same ws l s t (p .len) (λ j h. p .above j (omega arith)) i;
   }
     where
-      same-nodes : treeOf l t .nodes ≡ treeOf l s .nodes
-      same-nodes = ap (λ (n : ℕ). nodesIn n t) used ∙ nodes-same (usedIn s) s t (λ j a b. p .below j (omega arith) (omega arith))
+      same-nodes : treeOf ws l t .nodes ≡ treeOf ws l s .nodes
+      same-nodes = ap (λ (n : ℕ). nodesIn ws n t) used ∙ nodes-same ws (usedIn s) s t (λ j a b. p .below j (omega arith) (omega arith))
 
   taken-pops : Pops l s t k m
   taken-pops = record { first = taken-first; tree = taken-tree; formed = taken-formed; node = omega (arith, used, waits-node f k waits-first); left = p .count }
@@ -130,4 +130,4 @@ can-pop f e = rw e (formed-queue f)
 
 pub pop-is : (l q : ℕ) (s t : List ℕ) (r : Popped) → Formed l s → q ≡ queueAt l → PoppedIs s t q r → PopIs l s t r
 pop-is l q s t (Ticket k m) f e p = let x : Takes s t (queueAt l) k m = rw e at p in (x .unstored, taken-pops f (x .taken))
-pop-is l q s t Empty f e p = (least-none l s f (p .0), p .1)
+pop-is l q s t Empty f e p = (λ ws. least-none ws l s f (p .0), p .1)

@@ -19,13 +19,13 @@ part-same a n s t e f =
     part-at a n t i k ∙ f i k ∙ sym (part-at a n s i k))
 
 -- the closed words of a tree, which are its last
-pub closed-same : (l : ℕ) (s t : List ℕ) → length t ≡ length s → ((j : ℕ) → closedWordsAt l ≤ j → getD t j 0 ≡ getD s j 0) → treeOf l t .closed ≡ treeOf l s .closed
+pub closed-same : (ws : List ℕ) (l : ℕ) (s t : List ℕ) → length t ≡ length s → ((j : ℕ) → closedWordsAt l ≤ j → getD t j 0 ≡ getD s j 0) → treeOf ws l t .closed ≡ treeOf ws l s .closed
 unfolding treeIn
-closed-same l s t e f =
+closed-same ws l s t e f =
     ap (λ (n : ℕ). part (closedWordsAt l) (n - closedWordsAt l) t) e ∙ part-same (closedWordsAt l) (length s - closedWordsAt l) s t e (λ j _. f (closedWordsAt l + j) (omega arith))
 
 -- all words behind the queue are closed words
-pub tree-of : (m l : ℕ) (t : List ℕ) → length t ≡ treeWords m l → treeOf l t ≡ treeIn m l t
-tree-of m l t n =
+pub tree-of : (ws : List ℕ) (m l : ℕ) (t : List ℕ) → length t ≡ treeWords m l → treeOf ws l t ≡ treeIn ws m l t
+tree-of ws m l t n =
     let all : length t - closedWordsAt l ≡ m = omega (arith, n) in
-    ap (λ (k : ℕ). treeIn k l t) all
+    ap (λ (k : ℕ). treeIn ws k l t) all

@@ -62,25 +62,25 @@ waits l t x = times t (queueAt l) (queuedIn t) x
 abbrev waitsb : ℕ → List ℕ → ℕ → Bool
 waitsb l t x = ltb 0 (waits l t x)
 
-waiting-is : (l : ℕ) (t : List ℕ) → queueAt l + queuedIn t ≤ length t → treeOf l t .waiting ≡ those (waitsb l t) (numbers (usedIn t))
+waiting-is : (ws : List ℕ) (l : ℕ) (t : List ℕ) → queueAt l + queuedIn t ≤ length t → treeOf ws l t .waiting ≡ those (waitsb l t) (numbers (usedIn t))
 unfolding treeIn
-waiting-is l t h =
+waiting-is ws l t h =
     ap (λ (p : ℕ → Bool). those p (numbers (usedIn t))) (fun-ext (λ x. mem-times t (queueAt l) (queuedIn t) x h))
 
-module _ (l : ℕ) (t : List ℕ) (h : queueAt l + queuedIn t ≤ length t) (x : ℕ) where
-  pub waiting-mem : List·Memᴰ x (treeOf l t .waiting) → 0 < waits l t x
-  waiting-mem m = ltb-true 0 (waits l t x) (those-mem (waitsb l t) (numbers (usedIn t)) x (rw (waiting-is l t h) at m) .1)
+module _ (ws : List ℕ) (l : ℕ) (t : List ℕ) (h : queueAt l + queuedIn t ≤ length t) (x : ℕ) where
+  pub waiting-mem : List·Memᴰ x (treeOf ws l t .waiting) → 0 < waits l t x
+  waiting-mem m = ltb-true 0 (waits l t x) (those-mem (waitsb l t) (numbers (usedIn t)) x (rw (waiting-is ws l t h) at m) .1)
 
-  pub waiting-has : x < usedIn t → 0 < waits l t x → List·Memᴰ x (treeOf l t .waiting)
+  pub waiting-has : x < usedIn t → 0 < waits l t x → List·Memᴰ x (treeOf ws l t .waiting)
   waiting-has u w =
-      rw (waiting-is l t h) (those-has (waitsb l t) (numbers (usedIn t)) x (numbers-has (usedIn t) x u) (lt-ltb 0 (waits l t x) w))
+      rw (waiting-is ws l t h) (those-has (waitsb l t) (numbers (usedIn t)) x (numbers-has (usedIn t) x u) (lt-ltb 0 (waits l t x) w))
 
-module _ (l : ℕ) (s t : List ℕ) (hs : queueAt l + queuedIn s ≤ length s) (ht : queueAt l + queuedIn t ≤ length t) where
+module _ (ws : List ℕ) (l : ℕ) (s t : List ℕ) (hs : queueAt l + queuedIn s ≤ length s) (ht : queueAt l + queuedIn t ≤ length t) where
   -- node k was taken
   pub waiting-popped : (k : ℕ) → usedIn t ≡ usedIn s → ((x : ℕ) → waits l t x + one k x ≡ waits l s x) → waits l s k ≤ 1
-      → treeOf l t .waiting ≡ without k (treeOf l s .waiting)
+      → treeOf ws l t .waiting ≡ without k (treeOf ws l s .waiting)
   waiting-popped k u f once =
-      rw (waiting-is l t ht, u, waiting-is l s hs) (those-without (waitsb l s) (waitsb l t) k test (numbers (usedIn s)))
+      rw (waiting-is ws l t ht, u, waiting-is ws l s hs) (those-without (waitsb l s) (waitsb l t) k test (numbers (usedIn s)))
     where
       test : (x : ℕ) → waitsb l t x ≡ (not (eqb x k) && waitsb l s x)
       test x = elim (ℕ-discrete x k) [
@@ -92,9 +92,9 @@ module _ (l : ℕ) (s t : List ℕ) (hs : queueAt l + queuedIn s ≤ length s) (
 
   -- the node with the next number was queued
   pub waiting-pushed : usedIn t ≡ usedIn s + 1 → ((x : ℕ) → waits l t x ≡ waits l s x + one (usedIn s) x)
-      → treeOf l t .waiting ≡ treeOf l s .waiting ++ (usedIn s ∷ [])
+      → treeOf ws l t .waiting ≡ treeOf ws l s .waiting ++ (usedIn s ∷ [])
   waiting-pushed u f =
-      rw (waiting-is l t ht, u, add-one, waiting-is l s hs)
+      rw (waiting-is ws l t ht, u, add-one, waiting-is ws l s hs)
       (ap (those (waitsb l t)) (numbers-snoc n)
       ∙ those-snoc (waitsb l t) (numbers n) n
       ∙ ap₂ (λ (xs : List ℕ) (b : Bool). xs ++ keep b n []) (those-same (waitsb l t) (waitsb l s) (numbers n) test) last)

@@ -9,8 +9,8 @@ use Rattle.model.specs.Limits.{vertexLimit, edgeLimit}
 use Rattle.model.specs.declared.Solution.{Solution}
 use Rattle.model.specs.declared.Solution.the-variants.{Unsolved, At}
 use Rattle.model.specs.Graph.{Domain}
-use Rattle.model.specs.Search.{solutionCost, cheapest, consider}
-use Rattle.model.specs.Tree.{Node, Tree, least, popped, close, closedAt}
+use Rattle.model.specs.Search.{closedCount, solutionCost, cheapest, consider}
+use Rattle.model.specs.Tree.{Node, Tree, least, popped, close, closedAt, appended, pushNode}
 use Rattle.layout.specs.Layout.{queuedAt, queuedIn, usedIn, nodeAt, queueAt, queueWordIn, closedWordsAt, closedWordIn}
 use Rattle.layout.specs.Read.{treeIn}
 use Rattle.queue.specs.declared.Popped.{Popped}
@@ -22,9 +22,9 @@ use Rattle.tree.specs.declared.partial_keyed_closed_set.ClosedStatus.the
 use Rattle.tree.specs.declared.partial_keyed_closed_set.CloseResult.{CloseResult}
 use Rattle.tree.specs.declared.partial_keyed_closed_set.CloseResult.the-variants.{Accepted, Rejected}
 
--- the tree that its own words hold; all words behind the queue are closed words
-abbrev pub treeOf : ℕ → List ℕ → Tree
-treeOf l t = treeIn (length t - closedWordsAt l) l t
+-- the tree that its words t hold, of the cache whose words are ws; all words behind the queue are closed words
+abbrev pub treeOf : List ℕ → ℕ → List ℕ → Tree
+treeOf ws l t = treeIn ws (length t - closedWordsAt l) l t
 
 abbrev pub nodeOf : NodeWords → Node
 nodeOf x = record { vertex = x .vertex; cost = x .cost; parent = x .parent; edge = x .edge }
@@ -50,10 +50,10 @@ HasVertex l t v = closedWordsAt l + v < length t
 
 -- ---- taking the first node
 
--- t is s with its first ticket, for node k, taken; the queue has m words then
+-- t is s with its first ticket, for node k, taken, whatever the words ws of the cache; the queue has m words then
 pub record Pops (l : ℕ) (s t : List ℕ) (k m : ℕ) : Type 0 where
-  pub first : least (treeOf l s .nodes) (treeOf l s .waiting) ≡ some k
-  pub tree : treeOf l t ≡ popped (treeOf l s) k
+  pub first : (ws : List ℕ) → least (treeOf ws l s .nodes) (treeOf ws l s .waiting) ≡ some k
+  pub tree : (ws : List ℕ) → treeOf ws l t ≡ popped (treeOf ws l s) k
   pub formed : Formed l t
   pub node : k < usedIn t
   pub left : queuedIn t ≡ m
@@ -61,7 +61,7 @@ pub record Pops (l : ℕ) (s t : List ℕ) (k m : ℕ) : Type 0 where
 -- the length m is handed back, and not stored yet
 abbrev pub PopIs : ℕ → List ℕ → List ℕ → Popped → Type 0
 PopIs l s t (Ticket k m) = (queuedIn t ≡ queuedIn s) × Pops l s (set t queuedAt m) k m
-PopIs l s t Empty = (least (treeOf l s .nodes) (treeOf l s .waiting) ≡ none) × (t ≡ s)
+PopIs l s t Empty = ((ws : List ℕ) → least (treeOf ws l s .nodes) (treeOf ws l s .waiting) ≡ none) × (t ≡ s)
 
 -- ---- the closed set
 
@@ -76,13 +76,17 @@ pub record CanClose (l : ℕ) (t : List ℕ) (v n : ℕ) : Type 0 where
   pub node : n < usedIn t
 
 pub record Closes (l : ℕ) (s t : List ℕ) (v n : ℕ) : Type 0 where
-  pub before : closedAt (treeOf l s .closed) v ≡ 0
-  pub tree : treeOf l t ≡ close (treeOf l s) v n
+  pub before : closedWordIn l s v ≡ 0
+  pub tree : (ws : List ℕ) → treeOf ws l t ≡ close (treeOf ws l s) v n
   pub formed : Formed l t
+
+-- for the words ws of any cache: how many vertices are closed
+abbrev pub ClosedCountIs : ℕ → List ℕ → ℕ → Type 0
+ClosedCountIs l t r = (ws : List ℕ) → r ≡ closedCount (treeOf ws l t .closed)
 
 abbrev pub CloseIs : ℕ → List ℕ → List ℕ → ℕ → ℕ → CloseResult → Type 0
 CloseIs l s t v n Accepted = Closes l s t v n
-CloseIs l s t v n Rejected = (0 < closedAt (treeOf l s .closed) v) × (t ≡ s)
+CloseIs l s t v n Rejected = (0 < closedWordIn l s v) × (t ≡ s)
 
 -- each goal is one of the vertices
 abbrev pub HasGoals : ℕ → List ℕ → List ℕ → Type 0
@@ -93,16 +97,16 @@ abbrev pub HasSolution : List ℕ → Solution → Type 0
 HasSolution t Unsolved = Unit {0}
 HasSolution t (At n) = n < usedIn t
 
--- node n of the tree t is a solution: what it is worth in the domain d
-abbrev pub SolutionCostIs : Domain → List ℕ → ℕ → ℕ → Type 0
-SolutionCostIs d t n r = (m l : ℕ) → r ≡ solutionCost d (treeIn m l t .nodes) n
+-- node n of the tree t is a solution: what it is worth in the domain d; ws: the words of the tree's cache
+abbrev pub SolutionCostIs : Domain → List ℕ → List ℕ → ℕ → ℕ → Type 0
+SolutionCostIs d ws t n r = (m l : ℕ) → r ≡ solutionCost d (treeIn ws m l t .nodes) n
 
-abbrev pub CheapestIs : Domain → ℕ → List ℕ → List ℕ → Solution → Type 0
-CheapestIs d l t gs r = r ≡ cheapest d (treeOf l t .nodes) (treeOf l t .closed) gs Unsolved
+abbrev pub CheapestIs : Domain → List ℕ → ℕ → List ℕ → List ℕ → Solution → Type 0
+CheapestIs d ws l t gs r = r ≡ cheapest d (treeOf ws l t .nodes) (treeOf ws l t .closed) gs Unsolved
 
-pub record Considers (d : Domain) (l : ℕ) (t : List ℕ) (o : Solution) (v : ℕ) (r : Solution) : Type 0 where
+pub record Considers (d : Domain) (ws : List ℕ) (l : ℕ) (t : List ℕ) (o : Solution) (v : ℕ) (r : Solution) : Type 0 where
   pub node : HasSolution t r
-  pub solution : r ≡ consider d (treeOf l t .nodes) o (closedAt (treeOf l t .closed) v)
+  pub solution : r ≡ consider d (treeOf ws l t .nodes) o (closedAt (treeOf ws l t .closed) v)
 
 -- ---- a node more
 
@@ -114,7 +118,12 @@ pub record CanPushNode (l : ℕ) (t : List ℕ) (x : NodeWords) : Type 0 where
   pub add : CanAdd l t
   pub vertex : HasVertex l t (x .vertex)
 
--- t is a tree's words that hold the tree u
-pub record HoldsTree (l : ℕ) (t : List ℕ) (u : Tree) : Type 0 where
-  pub tree : treeOf l t ≡ u
+-- t is s with the node x and its ticket
+pub record Adds (l : ℕ) (s t : List ℕ) (x : Node) : Type 0 where
+  pub tree : (ws : List ℕ) → treeOf ws l t ≡ appended (treeOf ws l s) x
+  pub formed : Formed l t
+
+-- and unless the vertex of x is closed at no greater cost
+pub record PushesNode (l : ℕ) (s t : List ℕ) (x : Node) : Type 0 where
+  pub tree : (ws : List ℕ) → treeOf ws l t ≡ pushNode (treeOf ws l s) x
   pub formed : Formed l t

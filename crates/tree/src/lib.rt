@@ -9,10 +9,9 @@ ghost use mathlib.Core.Path.{_≡_};
 ghost use Prim.Native.Nat.{_+_, _<_};
 ghost use lib.ListN.{length, set};
 ghost use lib.Seq.{sets};
-ghost use Rattle.model.specs.Tree.{appended, pushNode};
 ghost use Rattle.layout.specs.Layout.{queuedAt, nodeAt, NodeFits};
 ghost use Rattle.layout.specs.Words.{nodeWords};
-ghost use Rattle.tree.specs.Tree.{treeOf, nodeOf, Formed, PopIs, CanAdd, CanPushNode, HoldsTree};
+ghost use Rattle.tree.specs.Tree.{nodeOf, Formed, PopIs, CanAdd, CanPushNode, Adds, PushesNode};
 
 // A node's words.
 pub struct Node {
@@ -25,7 +24,7 @@ pub struct Node {
 // Adds a node and its ticket, unless its vertex is closed at no greater cost.
 pub fn push_node(tree: &mut [u32], edges: usize, node: Node)
     requires { ⌜ CanPushNode edges (now tree) node ⌝ }
-    ensures { λ _. ⌜ HoldsTree edges (now (tree .exit)) (pushNode (treeOf edges (now (tree .entry))) (nodeOf node)) ⌝ }
+    ensures { λ _. ⌜ PushesNode edges (now (tree .entry)) (now (tree .exit)) (nodeOf node) ⌝ }
 {
     match status(tree, edges, wide(node.vertex)) {
         ClosedStatus::Open => {}
@@ -41,7 +40,7 @@ pub fn push_node(tree: &mut [u32], edges: usize, node: Node)
 // The node with the next number, and its ticket.
 fn add_node(tree: &mut [u32], edges: usize, node: Node)
     requires { ⌜ CanAdd edges (now tree) ⌝ }
-    ensures { λ _. ⌜ HoldsTree edges (now (tree .exit)) (appended (treeOf edges (now (tree .entry))) (nodeOf node)) ⌝ }
+    ensures { λ _. ⌜ Adds edges (now (tree .entry)) (now (tree .exit)) (nodeOf node) ⌝ }
 {
     let number = tree[layout::NODES];
     put_node(tree, wide(number), node);

@@ -4,11 +4,9 @@ use model::Solution;
 ghost use mathlib.Core.Path.{_≡_};
 ghost use Prim.Native.Nat.{_<_};
 ghost use lib.ListN.{length};
-ghost use Rattle.model.specs.Tree.{closedAt};
-ghost use Rattle.model.specs.Search.{closedCount};
-ghost use Rattle.layout.specs.Layout.{usedIn, NodeFits};
+ghost use Rattle.layout.specs.Layout.{usedIn, closedWordIn, NodeFits};
 ghost use Rattle.layout.specs.Read.{readCache};
-ghost use Rattle.tree.specs.Tree.{treeOf, Formed, HasVertex, HasGoals, HasSolution, statusOf, CanClose, CloseIs, SolutionCostIs, CheapestIs, Considers};
+ghost use Rattle.tree.specs.Tree.{Formed, HasVertex, HasGoals, HasSolution, statusOf, CanClose, CloseIs, ClosedCountIs, SolutionCostIs, CheapestIs, Considers};
 
 pub enum ClosedStatus {
     Open,
@@ -36,7 +34,7 @@ pub fn close(tree: &mut [u32], edges: usize, vertex: usize, node: u32) -> CloseR
 // The node that closed a vertex, if one did.
 pub fn status(tree: &[u32], edges: usize, vertex: usize) -> ClosedStatus
     requires { ⌜ Formed edges (now tree) × HasVertex edges (now tree) vertex ⌝ }
-    ensures { λ r. ⌜ r ≡ statusOf (closedAt (treeOf edges (now (tree .entry)) .closed) vertex) ⌝ }
+    ensures { λ r. ⌜ r ≡ statusOf (closedWordIn edges (now (tree .entry)) vertex) ⌝ }
 {
     let word = tree[layout::closed_at(edges) + vertex];
     if word == 0 {
@@ -49,7 +47,7 @@ pub fn status(tree: &[u32], edges: usize, vertex: usize) -> ClosedStatus
 // that are 0, so that the compiler counts four at a time and in the fewest instructions.
 pub fn closed_keys_len(tree: &[u32], edges: usize) -> u32
     requires { ⌜ Formed edges (now tree) ⌝ }
-    ensures { λ r. ⌜ r ≡ closedCount (treeOf edges (now (tree .entry)) .closed) ⌝ }
+    ensures { λ r. ⌜ ClosedCountIs edges (now (tree .entry)) r ⌝ }
 {
     let start = layout::closed_at(edges);
     let mut unclosed: u32 = 0;
@@ -66,7 +64,7 @@ pub fn closed_keys_len(tree: &[u32], edges: usize) -> u32
 // The cheapest closed goal, the first in the list on ties, as the node that closed it. `words` are those of the tree's cache.
 pub fn cheapest_goal(words: &[u32], tree: &[u32], edges: usize, goals: &[u32]) -> Solution
     requires { ⌜ Formed edges (now tree) × HasGoals edges (now tree) (now goals) ⌝ }
-    ensures { λ r. ⌜ CheapestIs (readCache (now (words .entry)) .domain) edges (now (tree .entry)) (now (goals .entry)) r ⌝ }
+    ensures { λ r. ⌜ CheapestIs (readCache (now (words .entry)) .domain) (now (words .entry)) edges (now (tree .entry)) (now (goals .entry)) r ⌝ }
 {
     let mut best = Solution::Unsolved;
     let mut i = 0;
@@ -86,7 +84,7 @@ fn cheaper_goal(
     vertex: usize,
 ) -> Solution
     requires { ⌜ Formed edges (now tree) × (HasVertex edges (now tree) vertex × HasSolution (now tree) best) ⌝ }
-    ensures { λ r. ⌜ Considers (readCache (now (words .entry)) .domain) edges (now (tree .entry)) best vertex r ⌝ }
+    ensures { λ r. ⌜ Considers (readCache (now (words .entry)) .domain) (now (words .entry)) edges (now (tree .entry)) best vertex r ⌝ }
 {
     match status(tree, edges, vertex) {
         ClosedStatus::Open => best,
@@ -105,7 +103,7 @@ fn cheaper_goal(
 // What the solution at a node is worth.
 pub fn solution_cost(words: &[u32], tree: &[u32], node: u32) -> u64
     requires { ⌜ (node < usedIn (now tree)) × NodeFits (length (now tree)) node ⌝ }
-    ensures { λ r. ⌜ SolutionCostIs (readCache (now (words .entry)) .domain) (now (tree .entry)) node r ⌝ }
+    ensures { λ r. ⌜ SolutionCostIs (readCache (now (words .entry)) .domain) (now (words .entry)) (now (tree .entry)) node r ⌝ }
 {
     queue::evaluation(tree, node)
 }

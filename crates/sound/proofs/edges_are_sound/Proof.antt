@@ -7,7 +7,7 @@ use borrow.Author.Needs.{needs}
 use Rattle.model.specs.Lists.{allb, upto}
 use Rattle.layout.specs.Read.{graphIn}
 use Rattle.layout.specs.Sound.{edgeTests}
-use Rattle.sound.proofs.Tests.{none-yet, one-fails, one-more, all-passed}
+use Rattle.model.proofs.InTurn.{none-yet, one-fails, one-more, all-passed}
 use Rattle.sound.proofs.edges_are_sound.Statement.{statement}
 use Rattle.sound.proofs.edges_are_sound.Tie as tie
 

@@ -7,7 +7,7 @@ use borrow.Author.Needs.{needs}
 use Rattle.model.specs.Lists.{upto}
 use Rattle.layout.specs.Layout.{initialIn}
 use Rattle.layout.specs.Sound.{initialb}
-use Rattle.sound.proofs.Tests.{none-yet, one-fails, one-more, all-passed}
+use Rattle.model.proofs.InTurn.{none-yet, one-fails, one-more, all-passed}
 use Rattle.sound.proofs.initials_are_sound.Statement.{statement}
 use Rattle.sound.proofs.initials_are_sound.Tie as tie
 

@@ -8,7 +8,8 @@ use lib.ListN.{length}
 use Rattle.model.specs.Sound.{starts as startsOf}
 use Rattle.layout.specs.Layout.{verticesIn, edgesIn}
 use Rattle.layout.specs.Read.{readTrees}
-use Rattle.sound.specs.Check.{Marked, treesb}
+use Rattle.sound_tree.specs.Check.{Marked}
+use Rattle.sound.specs.Check.{treesb}
 use Rattle.sound.proofs.Cache.{trees-none, starts-none, has-slot, can-check, has-start, tree-fails, has-mark, start-twice, trees-more, starts-marked, trees-all}
 use Rattle.sound.proofs.trees_in_use_are_sound.Statement.{statement}
 use Rattle.sound.proofs.trees_in_use_are_sound.Tie as tie

@@ -17,7 +17,7 @@ returns c =
     let b = c .before .before .before .before in
     let n = b .before .before .before in
     let a = n .before .before .before .before .before in
-    goal-cheaper _ (a .pre .0) (a .pre .1 .0) (n .before .before .status .ensures) (n .node .given .1) _ (a .pre .1 .1) (b .best .given .1) (c .before .before .solution-cost .ensures) (c .before .solution-cost2 .ensures) (c .if1 .taken)
+    goal-cheaper _ (a .pre .0) (a .pre .1 .0) (n .before .before .status .ensures) (n .node .given .1) _ _ (a .pre .1 .1) (b .best .given .1) (c .before .before .solution-cost .ensures) (c .before .solution-cost2 .ensures) (c .if1 .taken)
 
 returns-2 : tie.Need-returns-2
 returns-2 c = search goal-open

@@ -9,7 +9,7 @@ use Rattle.tree.proofs.partial_keyed_closed_set.cheapest_goal.Statement
 use Rattle.tree.proofs.partial_keyed_closed_set.cheapest_goal.Tie as tie
 
 abbrev Inv-loop : tie.InvT-loop
-Inv-loop words tree edges goals best₀ i₀ best i = Cheapest (readCache words .domain) edges tree goals best i
+Inv-loop words tree edges goals best₀ i₀ best i = Cheapest (readCache words .domain) words edges tree goals best i
 
 abbrev μ-loop : tie.MeasureT-loop
 μ-loop words tree edges goals best₀ i₀ best i = length goals - i

@@ -33,7 +33,7 @@ sub-result-2 : tie.Need-sub-result-2 Inv-loop μ-loop
 sub-result-2 c = omega (arith, c .before .loop .inv .few, c .before .loop .inv .within, c .before .before .closed-at .ensures)
 
 returns : tie.Need-returns Inv-loop μ-loop
-returns c = omega (arith, counted-all (c .before .loop .inv) (c .loop-test .left), c .before .before .closed-at .ensures)
+returns c ws = omega (arith, counted-all (c .before .loop .inv) (c .loop-test .left) ws, c .before .before .closed-at .ensures)
 
 pub closed-keys-len-spec : {M : Type 1} → statement M
 closed-keys-len-spec =
