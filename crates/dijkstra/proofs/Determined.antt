@@ -1,7 +1,7 @@
 -- What two steps from the same words and record leave is the same, but for the arrangement of the queue words of the entries' trees.
 -- Assumes nothing.
 use mathlib.Core.Path.{_≡_, refl, sym, ap, _∙_, subst}
-use mathlib.Core.Logic.{_⊎_, inl, inr}
+use mathlib.Core.Logic.{_⊎_, inl, inr, _≢_}
 use mathlib.Core.Bool.{Bool, true, false, not}
 use mathlib.Core.Option.{none}
 use mathlib.Core.List.{List}
@@ -18,10 +18,11 @@ use Rattle.model.specs.Valid.{valid}
 use Rattle.model.specs.Calls.{Cache, AfterStep, orElse, stepBy, step}
 use Rattle.model.proofs.Replies.{step-told, answered-refused}
 use Rattle.model.proofs.Valid.{valid-at}
-use Rattle.layout.specs.Layout.{slotsAt, queuedAt, queueAt, slotAt, treeWords, edgesIn, queuedIn, slotsIn, treesIn, verticesIn}
+use Rattle.layout.specs.Layout.{treeCountAt, slotsAt, queuedAt, queueAt, slotAt, treeWords, edgesIn, queuedIn, slotsIn, treesIn, verticesIn}
 use Rattle.layout.specs.Read.{treeIn, readCache}
 use Rattle.layout.specs.Sound.{soundWordsb}
 use Rattle.layout.proofs.Places.{part-at}
+use Rattle.layout.proofs.Trees.{tree-graph}
 use Rattle.layout.specs.Slots.{slotWords}
 use Rattle.tree.specs.Tree.{Formed}
 use Rattle.tree.proofs.Same.{tree-of}
@@ -37,9 +38,10 @@ use Rattle.dijkstra.proofs.Histories.{step-is}
 
 -- ---- two slots that hold one tree
 
-module _ (m l k : ℕ) (a b : List ℕ) (f : Formed l (slotWords m l k a)) (g : Formed l (slotWords m l k b)) where
+module _ (m l k : ℕ) (a b : List ℕ) (f : Formed l (slotWords m l k a)) (g : Formed l (slotWords m l k b))
+    (graph : (j : ℕ) → j ≢ treeCountAt → j < slotsAt m l → getD b j 0 ≡ getD a j 0) where
   slot-determined : length (slotWords m l k a) ≡ treeWords m l → length (slotWords m l k b) ≡ treeWords m l
-      → treeIn m l (slotWords m l k a) ≡ treeIn m l (slotWords m l k b)
+      → treeIn a m l (slotWords m l k a) ≡ treeIn b m l (slotWords m l k b)
       → (i : ℕ) → i < treeWords m l → (i < queueAt l) ⊎ (queueAt l + getD a (slotAt m l k + queuedAt) 0 ≤ i)
       → getD a (slotAt m l k + i) 0 ≡ getD b (slotAt m l k + i) 0
   slot-determined na nb same i h free =
@@ -47,7 +49,7 @@ module _ (m l k : ℕ) (a b : List ℕ) (f : Formed l (slotWords m l k a)) (g : 
       let t : List ℕ = slotWords m l k b in
       let queued : queuedIn s ≡ getD a (slotAt m l k + queuedAt) 0 = part-at (slotAt m l k) (treeWords m l) a queuedAt (omega arith) in
       sym (part-at (slotAt m l k) (treeWords m l) a i h)
-      ∙ words-determined l s t f g (na ∙ sym nb) (tree-of m l s na ∙ same ∙ sym (tree-of m l t nb)) i (subst (λ (q : ℕ). (i < queueAt l) ⊎ (queueAt l + q ≤ i)) (sym queued) free)
+      ∙ words-determined a l s t f g (na ∙ sym nb) (tree-of a m l s na ∙ same ∙ tree-graph m l a b t graph ∙ sym (tree-of a m l t nb)) i (subst (λ (q : ℕ). (i < queueAt l) ⊎ (queueAt l + q ≤ i)) (sym queued) free)
       ∙ part-at (slotAt m l k) (treeWords m l) b i h
 
 -- ---- a step that is not refused
@@ -86,7 +88,7 @@ module _ (ws : List ℕ) (s : Search) where
       let h = sound-words-at left z in
       rw (before left a 1 (omega arith), before left a 2 (omega arith), before left a 4 (omega arith)) at h
 
-  left-tree : (left : List ℕ) → Apart ws s left → (k : ℕ) → k < u → tree (readCache left .trees) k ≡ treeIn m l (slotWords m l k left)
+  left-tree : (left : List ℕ) → Apart ws s left → (k : ℕ) → k < u → tree (readCache left .trees) k ≡ treeIn left m l (slotWords m l k left)
   left-tree left a k h =
       let e = tree-read left {i = k} (omega (arith, before left a 4 (omega arith))) in
       rw (before left a 1 (omega arith), before left a 2 (omega arith)) at e
@@ -97,7 +99,7 @@ module _ (ws : List ℕ) (s : Search) where
     in-slot y z k h i =
         let p = left-sound left a y in
         let q = left-sound left′ b z in
-        slot-determined m l k left left′ (p .formed k h) (q .formed k h)
+        slot-determined m l k left left′ (p .formed k h) (q .formed k h) (λ j ne c. before left′ b j c ∙ sym (before left a j c))
         (slot-length m l left {i = k} {n = slotsIn left} (omega (arith, p .used)) (p .fits))
         (slot-length m l left′ {i = k} {n = slotsIn left′} (omega (arith, q .used)) (q .fits))
         (sym (left-tree left a k h) ∙ ap (λ (c : Cache). tree (c .trees) k) cache ∙ left-tree left′ b k h)

@@ -14,11 +14,11 @@ use Rattle.model.specs.Search.{closedCount, lookup, under}
 use Rattle.layout.specs.Read.{readCache}
 use Rattle.layout.specs.Layout.{edgesIn, verticesIn}
 use Rattle.layout.specs.Slots.{slotWords}
-use Rattle.tree.specs.Tree.{treeOf, HasGoals}
+use Rattle.tree.specs.Tree.{ClosedCountIs, HasGoals}
 use Rattle.grow.specs.declared.Grown.{Grown}
 use Rattle.sound.specs.Facts.{InUse}
 use Rattle.sound.proofs.InUse.{words-length, words-formed, words-value}
-use Rattle.entry_turns.specs.Turn.{treeAt, CanTurn, CanLookUp, looksUp, LooksUp, Remembers}
+use Rattle.entry_turns.specs.Turn.{treeAt, CanTurn, CanLookUp, looksUp, LooksUp, UnderIs, Remembers}
 
 -- t: the slot's words, l: the edges of the header
 module _ {ws : List ℕ} {i : ℕ} {gs : List ℕ} (can : CanTurn ws i gs) {t : List ℕ} (et : t ≡ slotWords (verticesIn ws) (edgesIn ws) i ws) {l : ℕ} (el : l ≡ edgesIn ws) where
@@ -28,17 +28,17 @@ module _ {ws : List ℕ} {i : ℕ} {gs : List ℕ} (can : CanTurn ws i gs) {t : 
   pub can-look-up : CanLookUp l t gs
   can-look-up = record { formed = words-formed (can .used) et el; goals = has-goals }
 
-  pub looked-up : (known : KnownLen) {r : Solution} → looksUp (readCache ws .domain) l t gs known r → LooksUp ws i gs known r
+  pub looked-up : (known : KnownLen) {r : Solution} → looksUp (readCache ws .domain) ws l t gs known r → LooksUp ws i gs known r
   looked-up known f = words-value (can .used) et el (λ (u : Tree). lookup (readCache ws .domain) u gs known) f
 
 -- n: the closed count; more: the test of the first ticket
 module _ {ws : List ℕ} {i : ℕ} (u : InUse ws i) {t : List ℕ} (et : t ≡ slotWords (verticesIn ws) (edgesIn ws) i ws) {l : ℕ} (el : l ≡ edgesIn ws)
     (g : Grown) (b : CostBound) {n : ℕ} {more : Bool} where
-  pub remembers : n ≡ closedCount (treeOf l t .closed) → more ≡ under (treeOf l t .nodes) (least (treeOf l t .nodes) (treeOf l t .waiting)) b
+  pub remembers : ClosedCountIs l t n → UnderIs l t b more
       → Remembers (treeAt ws i) g b (record { known = Len n; find = g .solution; more = more; tickets = g .tickets })
   remembers count test = record {
-    known = ap Len (words-value u et el (λ (x : Tree). closedCount (x .closed)) count);
+    known = ap Len (words-value u et el (λ (x : Tree). closedCount (x .closed)) (count ws));
     find = refl;
-    more = words-value u et el (λ (x : Tree). under (x .nodes) (least (x .nodes) (x .waiting)) b) test;
+    more = words-value u et el (λ (x : Tree). under (x .nodes) (least (x .nodes) (x .waiting)) b) (test ws);
     tickets = refl;
   }

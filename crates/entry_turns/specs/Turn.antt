@@ -104,13 +104,17 @@ pub record CanLookUp (l : ℕ) (t gs : List ℕ) : Type 0 where
   pub formed : Formed l t
   pub goals : HasGoals l t gs
 
-abbrev pub looksUp : Domain → ℕ → List ℕ → List ℕ → KnownLen → Solution → Type 0
-looksUp d l t gs known r = r ≡ lookup d (treeOf l t) gs known
+abbrev pub looksUp : Domain → List ℕ → ℕ → List ℕ → List ℕ → KnownLen → Solution → Type 0
+looksUp d ws l t gs known r = r ≡ lookup d (treeOf ws l t) gs known
 
 abbrev pub LooksUp : List ℕ → ℕ → List ℕ → KnownLen → Solution → Type 0
 LooksUp ws i gs known r = r ≡ lookup (readCache ws .domain) (treeAt ws i) gs known
 
 -- ---- 2. and 3. "the closed count is remembered, and a queue .. keeps the search unfinished"
+
+-- for the words ws of any cache: whether the first ticket of the tree t is under the bound b
+abbrev pub UnderIs : ℕ → List ℕ → CostBound → Bool → Type 0
+UnderIs l t b r = (ws : List ℕ) → r ≡ under (treeOf ws l t .nodes) (least (treeOf ws l t .nodes) (treeOf ws l t .waiting)) b
 
 -- what comes of the growing g that left the tree t
 pub record Remembers (t : Tree) (g : Grown) (b : CostBound) (r : Outcome) : Type 0 where

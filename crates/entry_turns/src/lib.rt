@@ -12,13 +12,12 @@ use model::TreeMemory;
 use tree::partial_keyed_closed_set::cheapest_goal;
 use tree::partial_keyed_closed_set::closed_keys_len;
 ghost use mathlib.Core.Path.{_≡_};
-ghost use Rattle.model.specs.Tree.{least};
-ghost use Rattle.model.specs.Search.{remembers, grown, under, cheaper};
+ghost use Rattle.model.specs.Search.{remembers, grown, cheaper};
 ghost use Rattle.layout.specs.Read.{readCache};
-ghost use Rattle.tree.specs.Tree.{treeOf, Formed};
+ghost use Rattle.tree.specs.Tree.{Formed};
 ghost use Rattle.grow.specs.Grow.{growthOf};
 ghost use Rattle.sound.specs.Facts.{InUse};
-ghost use Rattle.entry_turns.specs.Turn.{CanStep, Steps, treeAt, bestEntry, CanBound, boundIn, CanTurn, turnOf, Turns, LooksUp, CanLookUp, looksUp, Remembers, CanRecord, foundOf, CanCompare, dearerIn};
+ghost use Rattle.entry_turns.specs.Turn.{CanStep, Steps, treeAt, bestEntry, CanBound, boundIn, CanTurn, turnOf, Turns, LooksUp, CanLookUp, looksUp, UnderIs, Remembers, CanRecord, foundOf, CanCompare, dearerIn};
 
 // The search after some turns, and the tickets taken in them.
 pub struct Turned {
@@ -128,7 +127,7 @@ fn look_up(words: &[u32], slot: usize, goals: &[u32], known: KnownLen) -> Soluti
 
 fn look_up_in(words: &[u32], tree: &[u32], edges: usize, goals: &[u32], known: KnownLen) -> Solution
     requires { ⌜ CanLookUp edges (now tree) (now goals) ⌝ }
-    ensures { λ r. ⌜ looksUp (readCache (now (words .entry)) .domain) edges (now (tree .entry)) (now (goals .entry)) known r ⌝ }
+    ensures { λ r. ⌜ looksUp (readCache (now (words .entry)) .domain) (now (words .entry)) edges (now (tree .entry)) (now (goals .entry)) known r ⌝ }
 {
     if is_known(known, closed_keys_len(tree, edges)) {
         return Solution::Unsolved;
@@ -173,7 +172,7 @@ fn remember(words: &[u32], slot: usize, growth: Grown, bound: CostBound) -> Outc
 // Whether the first ticket costs less than the bound; with no bound, whether there is one.
 fn has_ticket_under(tree: &[u32], edges: usize, bound: CostBound) -> bool
     requires { ⌜ Formed edges (now tree) ⌝ }
-    ensures { λ r. ⌜ r ≡ under (treeOf edges (now (tree .entry)) .nodes) (least (treeOf edges (now (tree .entry)) .nodes) (treeOf edges (now (tree .entry)) .waiting)) bound ⌝ }
+    ensures { λ r. ⌜ UnderIs edges (now (tree .entry)) bound r ⌝ }
 {
     if tree[layout::QUEUED] == 0 {
         return false;

@@ -55,7 +55,7 @@ edges-before-bound r left g =
     let two : treesIn left ≡ 2 = g .outside .word treeCountAt (inl (omega arith)) in
     let used : 0 < treesIn left = omega arith in (
       g .tickets,
-      sym (tree-nodes (verticesIn left) (edgesIn left) (slotWords (verticesIn left) (edgesIn left) 0 left))
+      sym (tree-nodes left (verticesIn left) (edgesIn left) (slotWords (verticesIn left) (edgesIn left) 0 left))
           ∙ sym (ap (λ (t : Tree). length (t .nodes)) (tree-read left used))
           ∙ ap (λ (c : Cache). length (tree (c .trees) 0 .nodes)) (g .cache),
     )

@@ -122,7 +122,7 @@ module _ {ws : List ℕ} {i : ℕ} {gs : List ℕ} {b : CostBound} {s : Slot} {w
         → Grew ws i gs b (record { tickets = tickets; solution = Unsolved }) mid
     growing-dry p e =
         let q : PopIs (s .edges) lent ys Empty = rw e at p in
-        let none-left : least (t .nodes) (t .waiting) ≡ none = subst (λ (x : Tree). least (x .nodes) (x .waiting) ≡ none) (tree-lent (g .ready)) (q .0) in
+        let none-left : least (t .nodes) (t .waiting) ≡ none = subst (λ (x : Tree). least (x .nodes) (x .waiting) ≡ none) (tree-lent (g .ready)) (q .0 words) in
         rw (q .1, put-same (s .at) (s .end - s .at) words)
         (finished (next-is ∙ ap (grow d gs b (left - 1)) (ticket-none d gs b t tickets none-left) ∙ grow-over d gs b (left - 1) t tickets) (g .holds))
 
@@ -143,10 +143,10 @@ module _ {ws : List ℕ} {i : ℕ} {gs : List ℕ} {b : CostBound} {s : Slot} {w
       pops = let q : PopIs (s .edges) lent ys (Ticket k m) = rw e at p in q .1
 
       least-is : least (t .nodes) (t .waiting) ≡ some k
-      least-is = subst (λ (x : Tree). least (x .nodes) (x .waiting) ≡ some k) (tree-lent (g .ready)) (pops .first)
+      least-is = subst (λ (x : Tree). least (x .nodes) (x .waiting) ≡ some k) (tree-lent (g .ready)) (pops .first words)
 
-      left-tree : treeOf (s .edges) us ≡ popped t k
-      left-tree = pops .tree ∙ ap (λ (x : Tree). popped x k) (tree-lent (g .ready))
+      left-tree : treeOf words (s .edges) us ≡ popped t k
+      left-tree = pops .tree words ∙ ap (λ (x : Tree). popped x k) (tree-lent (g .ready))
 
       stored-is : stored ≡ putMid (s .at) (s .end - s .at) words us
       stored-is =
@@ -161,7 +161,7 @@ module _ {ws : List ℕ} {i : ℕ} {gs : List ℕ} {b : CostBound} {s : Slot} {w
 
       in-nodes : k < length (t .nodes)
       unfolding popped
-      in-nodes = omega (arith, pops .node, tree-nodes (length us - closedWordsAt (s .edges)) (s .edges) us, ap (λ (x : Tree). length (x .nodes)) left-tree)
+      in-nodes = omega (arith, pops .node, tree-nodes words (length us - closedWordsAt (s .edges)) (s .edges) us, ap (λ (x : Tree). length (x .nodes)) left-tree)
 
       pub can-visit-first : CanVisit s stored k
       can-visit-first = can-visit t k (ready-after (g .ready) taken) (taken .tree) (subst (λ (x : Domain). Sound x t) (sym still) (g .sound)) in-nodes

@@ -14,6 +14,7 @@ use Rattle.model.specs.Calls.{withTrees}
 use Rattle.layout.specs.Layout.{directionAt, vertexCountAt, edgeCountAt, slotCountAt, treeCountAt, treeWords, slotsAt, slotAt, edgesIn, slotsIn, startIn, treesIn, verticesIn}
 use Rattle.layout.specs.Read.{treeIn, readTrees, domainOf, readCache}
 use Rattle.layout.specs.Slots.{slotWords, slotOf, treeAt}
+use Rattle.layout.proofs.Trees.{tree-graph}
 use Rattle.tree.specs.Tree.{Formed}
 use Rattle.tree.proofs.Same.{part-same}
 use Rattle.sound.specs.Facts.{SoundIn, SoundWords, Ready}
@@ -34,6 +35,13 @@ module _ (ws left : List ℕ) (i : ℕ) (u : Tree) (ok : SoundWords ws) (used : 
 
   below : (j : ℕ) → j < slotsAt m l → getD left j 0 ≡ getD ws j 0
   below j b = h .outside .word j (inl (omega arith))
+
+  graph : (j : ℕ) → j ≢ treeCountAt → j < slotsAt m l → getD left j 0 ≡ getD ws j 0
+  graph j ne b = below j b
+
+  -- a tree's words, read with the words left
+  read-left : (t : List ℕ) → treeIn left m l t ≡ treeIn ws m l t
+  read-left t = tree-graph m l ws left t graph
 
   other : (j : ℕ) → j ≢ i → slotWords m l j left ≡ slotWords m l j ws
   other j ne = part-same (slotAt m l j) (treeWords m l) ws left (h .outside .len) (λ n b. h .outside .word (slotAt m l j + n) (elim (decLt j i) [
@@ -65,7 +73,7 @@ module _ (ws left : List ℕ) (i : ℕ) (u : Tree) (ok : SoundWords ws) (used : 
           held = ready-after ready h .held;
           differ = λ x y a b e. ok .differ x y a b (sym (starts x a) ∙ e ∙ starts y b);
           formed = at-slot (λ (x : ℕ) (t : List ℕ). Formed l t) (h .formed) (ok .formed);
-          sound = rw domain (at-slot (λ (x : ℕ) (t : List ℕ). Sound (domainOf m l ws) (treeIn m l t)) (rw (h .tree) good) (ok .sound));
+          sound = rw domain (at-slot (λ (x : ℕ) (t : List ℕ). Sound (domainOf m l ws) (treeIn left m l t)) (rw (h .tree) good) (λ x c. rw (read-left (slotWords m l x ws)) (ok .sound x c)));
           spare = λ j a b. h .outside .word j (inr (omega (arith, slot-before m l used))) ∙ ok .spare j a b;
         }
 
@@ -81,7 +89,7 @@ module _ (ws left : List ℕ) (i : ℕ) (u : Tree) (ok : SoundWords ws) (used : 
         tree-in-at m l left c
         ∙ elim (ℕ-discrete j i) [
           | yes e ↦ rw e (h .tree ∙ sym (getD-set-same old i u noTree (omega (arith, trees-in-length m l n ws))))
-          | no ne ↦ ap (treeIn m l) (other j ne) ∙ sym (getD-set-other old i j u noTree ne ∙ tree-in-at m l ws c)
+          | no ne ↦ ap (treeIn left m l) (other j ne) ∙ read-left (slotWords m l j ws) ∙ sym (getD-set-other old i j u noTree ne ∙ tree-in-at m l ws c)
         ])
 
     kept-cache : readCache left ≡ withTrees (readCache ws) (set (readCache ws .trees) i u)

@@ -14,7 +14,7 @@ use Rattle.layout.proofs.Edges.{edge-count-in, vertex-count-in, to-word, cost-w
 use Rattle.layout.specs.declared.slots.Slot.{Slot}
 use Rattle.layout.specs.Slots.{treeAt, domainAt}
 use Rattle.queue.specs.Queue.{figures}
-use Rattle.tree.specs.Tree.{CanPushNode, treeOf, nodeOf, HoldsTree}
+use Rattle.tree.specs.Tree.{CanPushNode, nodeOf, PushesNode}
 use Rattle.tree.specs.declared.Node.{Node as NodeWords}
 use Rattle.sound.proofs.InUse.{ready-length, mid-slot, tree-lent}
 use Rattle.grow.specs.Grow.{SlotHolds, CanPushChoice}
@@ -63,7 +63,7 @@ module _ {s : Slot} {ws : List ℕ} {k e w : ℕ} (h : CanPushChoice s ws k e) (
 
       -- ys: the words that came back
       pub pushed : {ys : List ℕ} → length ys ≡ length (midOf (s .at) (s .end - s .at) ws)
-          → HoldsTree (s .edges) ys (pushNode (treeOf (s .edges) (midOf (s .at) (s .end - s .at) ws)) (nodeOf new))
+          → PushesNode (s .edges) (midOf (s .at) (s .end - s .at) ws) ys (nodeOf new)
           → SlotHolds s ws (putMid (s .at) (s .end - s .at) ws ys) (pushNode (treeAt s ws) (child (domainAt s ws) n (figures k) e))
       pushed {ys} len left =
-          put-holds (h .ready) ys len (left .formed) (left .tree ∙ ap₂ pushNode (tree-lent (h .ready)) child-is)
+          put-holds (h .ready) ys len (left .formed) (left .tree ws ∙ ap₂ pushNode (tree-lent (h .ready)) child-is)

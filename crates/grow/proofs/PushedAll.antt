@@ -168,8 +168,8 @@ module _ {s : Slot} {ws left : List ℕ} {n v k first last place : ℕ} (i : Pus
                 i .above,
                 found .after,
                 push-few (treeAt s left) new,
-                tree-nodes (s .vertices) (s .edges) (wordsIn s left),
-                tree-nodes (s .vertices) (s .edges) (wordsIn s next),
+                tree-nodes left (s .vertices) (s .edges) (wordsIn s left),
+                tree-nodes next (s .vertices) (s .edges) (wordsIn s next),
                 ap (λ (t : Tree). length (t .nodes)) (g .tree),
               );
           holds = subst (SlotHolds s ws next) tree-is (holds-trans (i .holds) g);

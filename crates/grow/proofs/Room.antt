@@ -45,7 +45,7 @@ module _ {s : Slot} {ws : List ℕ} (t : Tree) (n : ℕ) (r : Ready s ws) (e : t
 
   used : length (t .nodes) ≡ usedIn (wordsIn s ws)
   unfolding popped
-  used = ap (λ (x : Tree). length (x .nodes)) (sym e) ∙ tree-nodes (s .vertices) (s .edges) (wordsIn s ws)
+  used = ap (λ (x : Tree). length (x .nodes)) (sym e) ∙ tree-nodes ws (s .vertices) (s .edges) (wordsIn s ws)
 
   vertices : vertexCount (d .graph) ≡ s .vertices
   vertices = vertex-count-in (s .vertices) (s .edges) ws (omega (arith, r .held .fits))

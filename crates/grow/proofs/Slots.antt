@@ -11,6 +11,7 @@ use borrow.Rule.Slice.PartMut.{putMid, midOf, take-put, drop-put}
 use Rattle.model.specs.Tree.{Tree}
 use Rattle.layout.specs.Layout.{headerWords, vertexCountAt, edgeCountAt, treeCountAt, slotsAt, treeWords}
 use Rattle.layout.specs.Read.{treeIn}
+use Rattle.layout.proofs.Trees.{tree-graph}
 use Rattle.layout.specs.declared.slots.Slot.{Slot}
 use Rattle.layout.specs.Slots.{wordsIn, treeAt, domainAt}
 use Rattle.graph.proofs.Parts.{put-mid, mid-put, put-length}
@@ -62,7 +63,11 @@ module _ {s : Slot} {ws : List ℕ} (r : Ready s ws) (ys : List ℕ) (same : len
       ∙ ap₂ (λ (x y : List ℕ). x ++ (zs ++ y)) (take-put (s .at) (s .end - s .at) ws ys (omega (arith, ae, r .fits))) (drop-put (s .at) (s .end) ws ys ae (r .fits) n)
       ∙ sym (put-mid ws zs (s .at) (s .end) ae)
 
-  pub put-holds : {u : Tree} → Formed (s .edges) ys → treeOf (s .edges) ys ≡ u → SlotHolds s ws back u
+  -- before the slots nothing was lent
+  graph-back : (j : ℕ) → j ≢ treeCountAt → j < slotsAt (s .vertices) (s .edges) → getD back j 0 ≡ getD ws j 0
+  graph-back j ne b = put-below ws ys (s .at) (s .end) ae (r .fits) n j (omega (arith, r .slot .at))
+
+  pub put-holds : {u : Tree} → Formed (s .edges) ys → treeOf ws (s .edges) ys ≡ u → SlotHolds s ws back u
   put-holds formed tree =
       let words : wordsIn s back ≡ ys = sym (mid-slot (r .slot) back) ∙ lent-again in
       record {
@@ -74,7 +79,11 @@ module _ {s : Slot} {ws : List ℕ} (r : Ready s ws) (ys : List ℕ) (same : len
           ];
         };
         formed = subst (Formed (s .edges)) (sym words) formed;
-        tree = ap (treeIn (s .vertices) (s .edges)) words ∙ sym (tree-of (s .vertices) (s .edges) ys part-size) ∙ tree;
+        tree =
+            ap (treeIn back (s .vertices) (s .edges)) words
+            ∙ tree-graph (s .vertices) (s .edges) ws back ys graph-back
+            ∙ sym (tree-of ws (s .vertices) (s .edges) ys part-size)
+            ∙ tree;
       }
 
 -- ---- one change after the other

@@ -13,16 +13,15 @@ use Rattle.model.specs.Lists.{mem}
 use Rattle.model.specs.Graph.{Domain, choices}
 use Rattle.model.specs.Tree.{Node, Tree, node, closedAt, evaluationOf, close, pushAll, expanded, above, goingOn}
 use Rattle.model.proofs.Worth.{evaluation-same}
-use Rattle.layout.specs.Layout.{edgesIn, verticesIn, usedIn, vertexIn, costIn, NodeFits}
+use Rattle.layout.specs.Layout.{edgesIn, verticesIn, usedIn, vertexIn, costIn, closedWordIn, NodeFits}
 use Rattle.layout.specs.Read.{nodeIn}
 use Rattle.layout.proofs.Trees.{tree-nodes, tree-node}
 use Rattle.layout.specs.declared.slots.Slot.{Slot}
 use Rattle.layout.specs.Slots.{slotWords, wordsIn, treeAt, domainAt}
 use Rattle.queue.specs.Queue.{figures}
-use Rattle.tree.specs.Tree.{treeOf, CanClose, Closes, CloseIs}
-use Rattle.tree.proofs.Closed.{node-fits}
+use Rattle.tree.specs.Tree.{CanClose, Closes, CloseIs}
+use Rattle.tree.proofs.Closed.{tree-word, node-fits}
 use Rattle.tree.specs.declared.partial_keyed_closed_set.CloseResult.{CloseResult}
-use Rattle.tree.proofs.Closed.{node-fits}
 use Rattle.tree.specs.declared.partial_keyed_closed_set.CloseResult.the-variants.{Accepted, Rejected}
 use Rattle.sound.proofs.InUse.{ready-words, ready-length, mid-slot, tree-lent}
 use Rattle.grow.specs.declared.Next.{Next}
@@ -44,8 +43,8 @@ module _ {s : Slot} {ws : List ℕ} {n : ℕ} (h : CanVisit s ws n) where
   abbrev it : Node
   it = node (tree .nodes) n
 
-  node-words : it ≡ nodeIn (wordsIn s ws) n
-  node-words = tree-node (s .vertices) (s .edges) (wordsIn s ws) n (h .used)
+  node-words : it ≡ nodeIn ws (wordsIn s ws) n
+  node-words = tree-node ws (s .vertices) (s .edges) (wordsIn s ws) n (h .used)
 
   -- t: the slot's words, as they are handed out
   pub node-within : {t : List ℕ} {i : ℕ} → t ≡ slotWords (verticesIn ws) (edgesIn ws) (s .number) ws → i ≡ n → NodeFits (length t) i
@@ -64,8 +63,10 @@ module _ {s : Slot} {ws : List ℕ} {n : ℕ} (h : CanVisit s ws n) where
         node = h .used;
       })
 
-      word-is : closedAt (treeOf (s .edges) lent .closed) w ≡ closedAt (tree .closed) (it .vertex)
-      word-is = ap₂ (λ (t : Tree) (x : ℕ). closedAt (t .closed) x) (tree-lent (h .ready)) (wide ∙ vertex-is)
+      word-is : closedWordIn (s .edges) lent w ≡ closedAt (tree .closed) (it .vertex)
+      word-is =
+          sym (tree-word ws (s .edges) lent w (can-close .vertex))
+          ∙ ap₂ (λ (t : Tree) (x : ℕ). closedAt (t .closed) x) (tree-lent (h .ready)) (wide ∙ vertex-is)
 
       -- ys: the words that came back
       module _ (ys : List ℕ) (r : CloseResult) (closing : CloseIs (s .edges) lent ys w n r) where
@@ -96,7 +97,7 @@ module _ {s : Slot} {ws : List ℕ} {n : ℕ} (h : CanVisit s ws n) where
           closed : SlotHolds s ws back (close tree (it .vertex) n)
           closed =
               put-holds (h .ready) ys len (closes .formed)
-              (closes .tree ∙ ap₂ (λ (t : Tree) (x : ℕ). close t x n) (tree-lent (h .ready)) (wide ∙ vertex-is))
+              (closes .tree ws ∙ ap₂ (λ (t : Tree) (x : ℕ). close t x n) (tree-lent (h .ready)) (wide ∙ vertex-is))
 
           domain : domainAt s back ≡ domainAt s ws
           domain = domain-after (h .ready) closed
@@ -104,9 +105,9 @@ module _ {s : Slot} {ws : List ℕ} {n : ℕ} (h : CanVisit s ws n) where
           used : usedIn (wordsIn s back) ≡ usedIn (wordsIn s ws)
           unfolding close
           used =
-              sym (tree-nodes (s .vertices) (s .edges) (wordsIn s back))
+              sym (tree-nodes back (s .vertices) (s .edges) (wordsIn s back))
               ∙ ap (λ (t : Tree). length (t .nodes)) (closed .tree)
-              ∙ tree-nodes (s .vertices) (s .edges) (wordsIn s ws)
+              ∙ tree-nodes ws (s .vertices) (s .edges) (wordsIn s ws)
 
           pub can-push-choices : CanPushChoices s back v k
           can-push-choices = record {

@@ -40,16 +40,16 @@ module _ {ws : List ℕ} {i : ℕ} (u : InUse ws i) where
     pub part-formed : Formed (s .edges) lent
     part-formed = subst (Formed (s .edges)) (sym (mid-slot (slot-is-ready .slot) ws)) (slot-is-ready .formed)
 
-    pub part-tree : treeOf (s .edges) lent ≡ tree (readCache ws .trees) i
+    pub part-tree : treeOf ws (s .edges) lent ≡ tree (readCache ws .trees) i
     part-tree = tree-lent slot-is-ready ∙ ap (λ (x : Slot). treeAt x ws) e ∙ sym (tree-read ws (u .slot))
 
     -- what was read off the part was read off the slot's tree
-    pub part-value : {A : Type 0} (f : Tree → A) {r : A} → r ≡ f (treeOf (s .edges) lent) → r ≡ f (tree (readCache ws .trees) i)
+    pub part-value : {A : Type 0} (f : Tree → A) {r : A} → r ≡ f (treeOf ws (s .edges) lent) → r ≡ f (tree (readCache ws .trees) i)
     part-value f e = e ∙ ap f part-tree
 
     -- the nodes used, and one of them
     pub part-used : usedIn lent ≡ length (tree (readCache ws .trees) i .nodes)
-    part-used = sym (tree-nodes (length lent - closedWordsAt (s .edges)) (s .edges) lent) ∙ ap (λ (t : Tree). length (t .nodes)) part-tree
+    part-used = sym (tree-nodes ws (length lent - closedWordsAt (s .edges)) (s .edges) lent) ∙ ap (λ (t : Tree). length (t .nodes)) part-tree
 
     module _ (k : ℕ) (h : k < length (tree (readCache ws .trees) i .nodes)) where
       pub part-node-fits : nodeAt k + 4 ≤ length lent
@@ -57,5 +57,5 @@ module _ {ws : List ℕ} {i : ℕ} (u : InUse ws i) where
 
       pub part-cost : costIn lent k ≡ node (tree (readCache ws .trees) i .nodes) k .cost
       part-cost =
-          sym (ap (λ (x : Node). x .cost) (tree-node (length lent - closedWordsAt (s .edges)) (s .edges) lent k (omega (arith, part-used))))
+          sym (ap (λ (x : Node). x .cost) (tree-node ws (length lent - closedWordsAt (s .edges)) (s .edges) lent k (omega (arith, part-used))))
           ∙ ap (λ (t : Tree). node (t .nodes) k .cost) part-tree

@@ -118,7 +118,7 @@ fn closes_goal(words: &[u32], slot: usize, goals: &[u32], node: u32) -> bool
 
 fn is_closed_goal(words: &[u32], tree: &[u32], edges: usize, goals: &[u32], node: u32) -> bool
     requires { ⌜ HasVertices edges (now words) (now tree) ⌝ }
-    ensures { λ r. ⌜ r ≡ closesGoal (now (goals .entry)) (treeOf edges (now (tree .entry))) node ⌝ }
+    ensures { λ r. ⌜ r ≡ closesGoal (now (goals .entry)) (treeOf (now (words .entry)) edges (now (tree .entry))) node ⌝ }
 {
     if tree[layout::NODES] <= node {
         return false;

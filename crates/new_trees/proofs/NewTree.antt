@@ -51,12 +51,12 @@ module _ (m l : ℕ) (t : List ℕ) (v k : ℕ) (len : length t ≡ treeWords m 
       }
 
   module _ (d : Domain) (size : vertexCount (d .graph) ≡ m) (cost : k ≡ initialCost d v) where
-    root : nodesIn (usedIn t) t ≡ rootNode d v ∷ []
-    root =
+    root : (ws : List ℕ) → nodesIn ws (usedIn t) t ≡ rootNode d v ∷ []
+    root ws =
         let x : Node = record { vertex = v; cost = k; parent = absent; edge = absent } in
-        ap (λ (n : ℕ). nodesIn n t) nodes
+        ap (λ (n : ℕ). nodesIn ws n t) nodes
         ∙ ap (λ (y : Node). y ∷ [])
-        (words-node t 0 x (λ i b. word (nodeAt 0 + i) (omega arith) ∙ getD-append-add (treeHeader v 1 1) (nodeWords x) i 0)
+        (words-node ws t 0 x (λ i b. word (nodeAt 0 + i) (omega arith) ∙ getD-append-add (treeHeader v 1 1) (nodeWords x) i 0)
         ∙ (λ i. record { vertex = v; cost = cost i; parent = absent; edge = absent }))
 
     queue : part (queueAt l) (queuedIn t) t ≡ 0 ∷ []
@@ -79,6 +79,6 @@ module _ (m l : ℕ) (t : List ℕ) (v k : ℕ) (len : length t ≡ treeWords m 
         let b : i < m = omega (arith, n) in
         part-at (closedWordsAt l) m t i b ∙ behind (closedWordsAt l + i) (omega arith) (omega arith) ∙ sym (getD-replicate (vertexCount (d .graph)) i 0 0 (omega (arith, size))))
 
-    pub new-tree : treeIn m l t ≡ newTree d v
+    pub new-tree : (ws : List ℕ) → treeIn ws m l t ≡ newTree d v
     unfolding treeIn newTree
-    new-tree = λ i. record { start = word startAt (omega arith) i; nodes = root i; waiting = waits i; closed = closed i }
+    new-tree ws = λ i. record { start = word startAt (omega arith) i; nodes = root ws i; waiting = waits i; closed = closed i }

@@ -17,6 +17,7 @@ use Rattle.layout.specs.Read.{treeIn, readTrees, domainOf, readCache}
 use Rattle.layout.specs.Held.{Held}
 use Rattle.layout.proofs.Edges.{vertex-count-in}
 use Rattle.layout.proofs.Places.{part-at}
+use Rattle.layout.proofs.Trees.{tree-graph}
 use Rattle.layout.specs.Slots.{slotWords}
 use Rattle.tree.specs.Tree.{Formed}
 use Rattle.tree.proofs.Added.{getD-sets-other}
@@ -108,8 +109,8 @@ module _ (ws : List ℕ) (v : ℕ) (h : CanPlant ws v) where
   formed : Formed l new
   formed = new-formed m l new v (initialCost d v) new-len word (h .sound .held .sized)
 
-  planted-tree : treeIn m l new ≡ newTree d v
-  planted-tree = new-tree m l new v (initialCost d v) new-len word d (vertex-count-in m l ws (omega (arith, h .sound .held .fits))) refl
+  planted-tree : treeIn left m l new ≡ newTree d v
+  planted-tree = new-tree m l new v (initialCost d v) new-len word d (vertex-count-in m l ws (omega (arith, h .sound .held .fits))) refl left
 
   abbrev ts : List Tree
   ts = readTrees m l u ws
@@ -126,16 +127,16 @@ module _ (ws : List ℕ) (v : ℕ) (h : CanPlant ws v) where
       ext-getD noTree (readTrees m l (u + 1) left) (ts ++ (newTree d v ∷ [])) (omega (arith, n, n′, length-append ts (newTree d v ∷ []))) (λ j b.
       let c : j < u + 1 = omega (arith, n′) in
       tree-in-at m l left c
-      ∙ at-slot (λ (j : ℕ) (t : List ℕ). treeIn m l t ≡ tree (ts ++ (newTree d v ∷ [])) j)
+      ∙ at-slot (λ (j : ℕ) (t : List ℕ). treeIn left m l t ≡ tree (ts ++ (newTree d v ∷ [])) j)
       (planted-tree ∙ sym (getD-at ts (newTree d v) [] noTree u n))
-      (λ j k. sym (List·getD-append ts (newTree d v ∷ []) noTree j (omega (arith, n)) ∙ tree-in-at m l ws k)) j c)
+      (λ j k. tree-graph m l ws left (slotWords m l j ws) before ∙ sym (List·getD-append ts (newTree d v ∷ []) noTree j (omega (arith, n)) ∙ tree-in-at m l ws k)) j c)
 
   sound-trees : SoundTrees d (ts ++ (newTree d v ∷ []))
   unfolding readCache
   sound-trees = h .trees
 
   -- tree j, with its start
-  tree-at : (j : ℕ) → j < u + 1 → treeIn m l (slotWords m l j left) ≡ tree (ts ++ (newTree d v ∷ [])) j
+  tree-at : (j : ℕ) → j < u + 1 → treeIn left m l (slotWords m l j left) ≡ tree (ts ++ (newTree d v ∷ [])) j
   tree-at j b = sym (tree-in-at m l left b) ∙ ap (λ (x : List Tree). tree x j) trees
 
   inside : (j : ℕ) → j < u + 1 → j < length (ts ++ (newTree d v ∷ []))

@@ -59,7 +59,7 @@ module _ {ws : List ℕ} {i n : ℕ} (u : HasNode ws i n) where
       room = omega (arith, room, count, ap₂ (λ (x : List Node) (y : ℕ). movesOf x y) (nodes-are u e is) is);
     }
 
-    pub path-written : (r : ℕ) (q : List ℕ) → Backtracks t (directionIn ws) w p r q → RetracesNode ws i n p (Moves k) q
+    pub path-written : (r : ℕ) (q : List ℕ) → Backtracks ws t (directionIn ws) w p r q → RetracesNode ws i n p (Moves k) q
     path-written r q h =
         let fits : 1 + 2 * movesOf ns n ≤ length p = omega (arith, room, count) in
         ap₂ (λ (m : ℕ) (x : List ℕ). given m x) count
