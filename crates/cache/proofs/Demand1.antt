@@ -18,7 +18,7 @@ use Rattle.model.proofs.Faults.{or-none}
 use Rattle.model.proofs.Replies.{answered-refused}
 use Rattle.model.proofs.Demand1.{written-length, written-past}
 use Rattle.text.specs.declared.counts.Counts.{Counts}
-use Rattle.text.specs.Read.{judge, graphOf, graphBy, readGraph}
+use Rattle.text.specs.Read.{judgeText, graphOf, graphBy, readGraph}
 use Rattle.text.proofs.Accepted.{judged-accepted, read-is}
 use Rattle.layout.specs.Layout.{needed}
 use Rattle.layout.specs.Words.{openedWords}
@@ -45,7 +45,7 @@ refused-by none ws text d t n line e = refused-read (readGraph text) ws d t n li
 
 -- a graph was read: the text has no fault
 module _ (ws text : List ℕ) (d t : ℕ) (within : d ≤ 1) (slots : (1 ≤ t) × (t ≤ 64)) where
-  opens-fitting : (k : Counts) → judge text ≡ answered k → (short : Bool)
+  opens-fitting : (k : Counts) → judgeText text ≡ answered k → (short : Bool)
       → ltb (length ws) (needed (vertexCount (graphOf text)) (edgeCount (graphOf text)) t) ≡ short
       → (openIf short (graphOf text) ws d t) .reply ≡ answered tt → Opens ws text d t ((openIf short (graphOf text) ws d t) .words)
   opens-fitting k j true e r = absurd (answered-refused tt 5 0 (sym r))
@@ -67,7 +67,7 @@ module _ (ws text : List ℕ) (d t : ℕ) (within : d ≤ 1) (slots : (1 ≤ t) 
         past = λ i h. written-past (openedWords (directionOf d) g t) ws i (omega arith);
       }
 
-  opens-read : (r : Reply Counts) → judge text ≡ r → (openRead (graphBy r (graphOf text)) ws d t) .reply ≡ answered tt
+  opens-read : (r : Reply Counts) → judgeText text ≡ r → (openRead (graphBy r (graphOf text)) ws d t) .reply ≡ answered tt
       → Opens ws text d t ((openRead (graphBy r (graphOf text)) ws d t) .words)
   opens-read (refused n line) j e = absurd (answered-refused tt _ _ (sym e))
   opens-read (answered k) j e = opens-fitting k j _ refl e
@@ -80,7 +80,7 @@ opens-by none ws text d t q e =
     let direction = or-none _ _ _ q in
     let count = or-none _ _ _ (direction .1) in
     let both = and-true (leb 1 t) (leb t 64) (not-false _ (count .0)) in
-    opens-read ws text d t (ltb-false _ _ (direction .0)) (leb-true _ _ (both .0), leb-true _ _ (both .1)) (judge text) refl e
+    opens-read ws text d t (ltb-false _ _ (direction .0)) (leb-true _ _ (both .0), leb-true _ _ (both .1)) (judgeText text) refl e
 
 -- ---- the call, by its promise
 

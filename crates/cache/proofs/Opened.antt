@@ -11,7 +11,7 @@ use Rattle.model.specs.Graph.{Graph, Direction, forward, backward, Domain, doma
 use Rattle.model.specs.Calls.{opened, written}
 use Rattle.model.proofs.Reversed.{domain-direction, domain-counts}
 use Rattle.text.specs.declared.counts.Counts.{Counts}
-use Rattle.text.specs.Read.{judge, graphOf}
+use Rattle.text.specs.Read.{judgeText, graphOf}
 use Rattle.text.proofs.Accepted.{judged-counts, judged-accepted}
 use Rattle.layout.specs.Layout.{headerWords, slotsAt, treeWords, needed}
 use Rattle.layout.specs.Words.{directionWord, headerOf, edgeWords, firstPlaces, graphWords, openedWords}
@@ -94,7 +94,7 @@ module _ (dir : Direction) (g : Graph) (t : ℕ) where
 
 -- ---- the same of a text without fault, in the code's terms: z counts its vertices and edges
 
-module _ (text : List ℕ) (z : Counts) (d t : ℕ) (ws : List ℕ) (judged : judge text ≡ answered z) (within : d ≤ 1)
+module _ (text : List ℕ) (z : Counts) (d t : ℕ) (ws : List ℕ) (judged : judgeText text ≡ answered z) (within : d ≤ 1)
     (fits : needed (z .vertices) (z .edges) t ≤ length ws) where
   abbrev graph : Graph
   graph = graphOf text

@@ -20,7 +20,7 @@ use Rattle.model.specs.Calls.{orElse}
 use Rattle.text.specs.declared.counts.Counts.{Counts}
 use Rattle.text.specs.declared.counts.Judged.{Judged}
 use Rattle.text.specs.declared.counts.Judged.the-variants.{Sizes, Fault}
-use Rattle.text.specs.Read.{judge, graphOf, graphBy, judgedReply}
+use Rattle.text.specs.Read.{judgeText, graphOf, graphBy, judgedReply}
 use Rattle.text.proofs.Accepted.{judged-counts, read-is}
 use Rattle.text.proofs.Passed.{judged-within}
 use Rattle.layout.specs.Layout.{Sized, headerWords, slotsAt, needed}
@@ -81,19 +81,19 @@ module _ (ws text : List ℕ) (d t : ℕ) where
       open-many-slots h = rw over (sym (by-slots false (rw (lt-leb t 64 h) (and-false (leb 1 t)))))
 
     module _ (some-slot : t ≡ 0 → ⊥) (few : t ≤ 64) where
-      open-judged : {r : Reply Counts} → judge text ≡ r → openRead (graphBy r (graphOf text)) ws d t ≡ openCache ws text d t
+      open-judged : {r : Reply Counts} → judgeText text ≡ r → openRead (graphBy r (graphOf text)) ws d t ≡ openCache ws text d t
       open-judged e =
           sym
           (by-slots true (rw (le-leb 1 t (omega arith), le-leb t 64 few))
           ∙ ap (λ (x : Reply Graph). openRead x ws d t) (read-is text e))
 
       -- j says how the text was judged
-      module _ {j : Judged} (answer : judgedReply j ≡ judge text) where
+      module _ {j : Judged} (answer : judgedReply j ≡ judgeText text) where
         pub open-fault : {f : Refusal} {line : ℕ} → j ≡ Fault f line → afterOpen (Refused f line) ws ≡ openCache ws text d t
         open-fault e = open-judged (sym answer ∙ ap judgedReply e)
 
         pub open-sizes : {z : Counts} {after : AfterOpen} → j ≡ Sizes z → after ≡ openRead (answered (graphOf text)) ws d t → after ≡ openCache ws text d t
         open-sizes e opened = opened ∙ open-judged (sym answer ∙ ap judgedReply e)
 
-pub can-open : {text : List ℕ} {d t : ℕ} {j : Judged} {z : Counts} → judgedReply j ≡ judge text → j ≡ Sizes z → d ≤ 1 → t ≤ 64 → CanOpen text d t z
+pub can-open : {text : List ℕ} {d t : ℕ} {j : Judged} {z : Counts} → judgedReply j ≡ judgeText text → j ≡ Sizes z → d ≤ 1 → t ≤ 64 → CanOpen text d t z
 can-open answer e direction slots = record { judged = sym answer ∙ ap judgedReply e; direction = direction; slots = slots }

@@ -13,7 +13,7 @@ use Rattle.model.specs.Answers.{Reply, answered, refused, openReply}
 use Rattle.model.specs.Graph.{Graph, vertexCount, edgeCount}
 use Rattle.model.specs.Calls.{Fault, firstFault, written}
 use Rattle.text.specs.declared.counts.Counts.{Counts}
-use Rattle.text.specs.Read.{judge, readGraph}
+use Rattle.text.specs.Read.{judgeText, readGraph}
 use Rattle.layout.specs.Layout.{needed}
 use Rattle.layout.specs.Words.{openedWords}
 use Rattle.layout.specs.Read.{directionOf}
@@ -61,6 +61,6 @@ Opening ws text direction slots r left = afterOpen r left ≡ openCache ws text 
 
 -- the text has no fault and is of these counts; direction and slots are within their limits
 pub record CanOpen (text : List ℕ) (dir t : ℕ) (z : Counts) : Type 0 where
-  pub judged : judge text ≡ answered z
+  pub judged : judgeText text ≡ answered z
   pub direction : dir ≤ 1
   pub slots : t ≤ slotLimit

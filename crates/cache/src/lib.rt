@@ -4,7 +4,7 @@ use model::Refusal;
 use model::limits::MAX_SLOTS;
 use text::counts::Counts;
 use text::counts::Judged;
-use text::counts::judge;
+use text::counts::judge_text;
 ghost use mathlib.Core.Path.{_≡_};
 ghost use mathlib.Core.List.{_∷_, [], _++_};
 ghost use Prim.Native.Nat.{_≤_};
@@ -29,7 +29,7 @@ pub fn open(words: &mut [u32], text: &[u8], direction: u32, slots: usize) -> Ope
     if MAX_SLOTS < slots {
         return refused(Refusal::OverLimit);
     }
-    match judge(text) {
+    match judge_text(text) {
         Judged::Fault { refusal, line } => OpenAnswer::Refused { refusal, line },
         Judged::Sizes(counts) => open_sized(words, text, direction, slots, counts),
     }

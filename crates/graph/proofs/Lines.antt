@@ -12,7 +12,7 @@ use Rattle.text.specs.declared.counts.Counts.{Counts}
 use Rattle.text.specs.declared.lines.Line.{Line}
 use Rattle.text.specs.declared.lines.Line.the-variants as line
 use Rattle.text.specs.Lines.{linesOf}
-use Rattle.text.specs.Read.{judgeFrom, judge, counted, noCounts, initialWord, initialsOf, edgesOf, graphOf}
+use Rattle.text.specs.Read.{judgeFrom, judgeText, counted, noCounts, initialWord, initialsOf, edgesOf, graphOf}
 use Rattle.text.proofs.Passed.{passes-rest}
 use Rattle.text.proofs.Accepted.{counts-from}
 use Rattle.layout.specs.Layout.{headerWords, initialAt, placesAt, edgeAt}
@@ -96,7 +96,7 @@ pub text-written : (dir : Direction) (text : List ℕ) (z : Counts) (ws : List �
     ≡ take headerWords ws
     ++ (domain dir (graphOf text) .graph .initial
     ++ (edgeWords (domain dir (graphOf text) .graph .edges) ++ drop (placesAt (z .vertices) (z .edges)) ws))
-unfolding judge graphOf
+unfolding judgeText graphOf
 text-written dir text z ws can =
     lines-written dir 1 noCounts z (linesOf text) ws (can .judged)
     ∙ ap (λ (i : ℕ). sets (sets ws headerWords us) i vs) (omega (arith, counts))

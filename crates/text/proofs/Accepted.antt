@@ -17,7 +17,7 @@ use Rattle.text.specs.declared.lines.Line.{Line}
 use Rattle.text.specs.declared.lines.Line.the-variants.{Vertex, Edge, Illegal}
 use Rattle.text.specs.declared.counts.Counts.{Counts}
 use Rattle.text.specs.Lines.{linesOf}
-use Rattle.text.specs.Read.{dear, initialWord, counted, judgeFrom, noCounts, judge, initialsOf, edgesOf, graphOf, graphBy, readGraph}
+use Rattle.text.specs.Read.{dear, initialWord, counted, judgeFrom, noCounts, judgeText, initialsOf, edgesOf, graphOf, graphBy, readGraph}
 use Rattle.text.proofs.Passed.{fine-first, passes-first, passes-rest, answered-empty, judged-within}
 
 -- ---- the lines below those that k counts
@@ -59,12 +59,12 @@ edges-from n k (Edge a b c ∷ xs) e (suc l) h = edges-from (n + 1) (counted k (
 
 -- ---- a whole text
 
-pub judged-counts : (text : List ℕ) (k : Counts) → judge text ≡ answered k → (vertexCount (graphOf text) ≡ k .vertices) × (edgeCount (graphOf text) ≡ k .edges)
-unfolding judge graphOf
+pub judged-counts : (text : List ℕ) (k : Counts) → judgeText text ≡ answered k → (vertexCount (graphOf text) ≡ k .vertices) × (edgeCount (graphOf text) ≡ k .edges)
+unfolding judgeText graphOf
 judged-counts text k e = omega (arith, counts-from 1 noCounts (linesOf text) e)
 
-pub judged-accepted : (text : List ℕ) (k : Counts) → judge text ≡ answered k → Accepted (graphOf text)
-unfolding judge graphOf
+pub judged-accepted : (text : List ℕ) (k : Counts) → judgeText text ≡ answered k → Accepted (graphOf text)
+unfolding judgeText graphOf
 judged-accepted text k e =
     let c = judged-counts text k e in
     let w = judged-within text e in
@@ -79,6 +79,6 @@ judged-accepted text k e =
     }
 
 -- the graph or the first fault, by what judging says
-pub read-is : (text : List ℕ) {r : Reply Counts} → judge text ≡ r → readGraph text ≡ graphBy r (graphOf text)
+pub read-is : (text : List ℕ) {r : Reply Counts} → judgeText text ≡ r → readGraph text ≡ graphBy r (graphOf text)
 unfolding readGraph
 read-is text e = ap (λ (r : Reply Counts). graphBy r (graphOf text)) e

@@ -9,11 +9,11 @@ use Rattle.model.specs.Graph.{Graph, absent}
 use Rattle.text.specs.declared.counts.Counts.{Counts}
 use Rattle.text.specs.Bytes.{bytes}
 use Rattle.text.specs.Print.{printed}
-use Rattle.text.specs.Read.{readGraph, judge}
+use Rattle.text.specs.Read.{readGraph, judgeText}
 
 unfoldable said : string.String → Reply Counts
-unfolding judge
-said s = judge (bytes s)
+unfolding judgeText
+said s = judgeText (bytes s)
 
 -- 01's chart, read and printed
 abbrev pub exampleText : string.String

@@ -13,7 +13,7 @@ use Rattle.text.specs.declared.lines.Line.{Line}
 use Rattle.text.specs.declared.lines.Line.the-variants.{Illegal}
 use Rattle.text.specs.declared.counts.Counts.{Counts}
 use Rattle.text.specs.Lines.{linesOf}
-use Rattle.text.specs.Read.{lineFaults, counted, unlessFault, judgeFrom, noCounts, judge, FaultFrom, RefusedExactly}
+use Rattle.text.specs.Read.{lineFaults, counted, unlessFault, judgeFrom, noCounts, judgeText, FaultFrom, RefusedExactly}
 
 fault-from : (n : ℕ) (k : Counts) (xs : List Line) (f at : ℕ) → judgeFrom n k xs ≡ refused f at → FaultFrom n k xs f at
 unfolding judgeFrom
@@ -59,7 +59,7 @@ module _ (counts : Counts) (f : ℕ) where
       go none r below = below r
 
 pub first-fault : RefusedExactly
-unfolding judge
+unfolding judgeText
 first-fault text f at = (
   fault-from 1 noCounts (linesOf text) f at,
   λ b. refused-from (b .counts) f (b .above) 1 noCounts (linesOf text) (b .inside) (b .passed) (b .fault) ∙ ap (refused f) (sym (b .place)),

@@ -12,7 +12,7 @@ use Rattle.text.specs.declared.lines.Line.{Line}
 use Rattle.text.specs.declared.counts.Counts.{Counts}
 use Rattle.text.specs.Bytes.{place}
 use Rattle.text.specs.Lines.{lineOf, linesOf}
-use Rattle.text.specs.Read.{lineFaults, counted, judgeFrom, noCounts, judge}
+use Rattle.text.specs.Read.{lineFaults, counted, judgeFrom, noCounts, judgeText}
 use Rattle.text.proofs.Passed.{Within, none-within, fine, within-counted}
 use Rattle.text.proofs.Parts.{rest, rest-length}
 use Rattle.text.proofs.LineCuts.{lines-past, place-within, lines-unended, lines-next}
@@ -22,28 +22,28 @@ pub record Judging (text : List ℕ) (k : Counts) (above at : ℕ) : Type 0 wher
   pub inside : at ≤ length text
   pub fewer : above ≤ at
   pub within : Within k
-  pub left : judge text ≡ judgeFrom (above + 1) k (linesOf (drop at text))
+  pub left : judgeText text ≡ judgeFrom (above + 1) k (linesOf (drop at text))
 
 pub judging-first : (text : List ℕ) → Judging text noCounts 0 0
-unfolding judge
+unfolding judgeText
 judging-first text = record { inside = omega arith; fewer = omega arith; within = none-within; left = refl }
 
-pub judged-last : {text : List ℕ} {k : Counts} {above at : ℕ} → Judging text k above at → length text ≤ at → answered k ≡ judge text
+pub judged-last : {text : List ℕ} {k : Counts} {above at : ℕ} → Judging text k above at → length text ≤ at → answered k ≡ judgeText text
 unfolding judgeFrom
 judged-last {text} {k} {above} {at} j h = sym (j .left ∙ rw (lines-past text at h))
 
 -- ---- p: where the first LF of the bytes left stands
 module _ {text : List ℕ} {k : Counts} {above at : ℕ} (j : Judging text k above at) {p : ℕ} (found : p ≡ place 10 (rest text at)) where
-  pub judged-unended : at < length text → p ≡ length (rest text at) → refused 1 (above + 1) ≡ judge text
+  pub judged-unended : at < length text → p ≡ length (rest text at) → refused 1 (above + 1) ≡ judgeText text
   unfolding judgeFrom lineFaults
   judged-unended h e = sym (j .left ∙ rw (lines-unended text at found h e))
 
   -- x: the line that ends there
   module _ (ended : p ≡ length (rest text at) → ⊥) {x : Line} (read : x ≡ lineOf (take (p - 0) (drop 0 (rest text at)))) where
-    left-at : judge text ≡ judgeFrom (above + 1) k (x ∷ linesOf (drop (at + p + 1) text))
+    left-at : judgeText text ≡ judgeFrom (above + 1) k (x ∷ linesOf (drop (at + p + 1) text))
     left-at = j .left ∙ ap (judgeFrom (above + 1) k) (lines-next text at found ended read)
 
-    pub judged-fault : {f : ℕ} → some f ≡ firstFault (lineFaults k x) → refused f (above + 1) ≡ judge text
+    pub judged-fault : {f : ℕ} → some f ≡ firstFault (lineFaults k x) → refused f (above + 1) ≡ judgeText text
     unfolding judgeFrom
     judged-fault e = sym (left-at ∙ rw (sym e))
 

@@ -17,7 +17,7 @@ use Rattle.text.specs.declared.lines.Line.{Line}
 use Rattle.text.specs.declared.lines.Line.the-variants.{Vertex, Edge, Illegal}
 use Rattle.text.specs.declared.counts.Counts.{Counts}
 use Rattle.text.specs.Lines.{linesOf}
-use Rattle.text.specs.Read.{dear, lineFaults, counted, unlessFault, judgeFrom, noCounts, judge}
+use Rattle.text.specs.Read.{dear, lineFaults, counted, unlessFault, judgeFrom, noCounts, judgeText}
 
 neither : (a b : Bool) → (a || b) ≡ false → (a ≡ false) × (b ≡ false)
 neither true b e = absurd (true≢false e)
@@ -97,8 +97,8 @@ pub limits : (n : ℕ) (k : Counts) (xs : List Line) {z : Counts} → judgeFrom 
 limits n k [] e w = subst (λ (z : Counts). Within z) (answered-empty n k e) w
 limits n k (x ∷ xs) e w = limits (n + 1) (counted k x) xs (passes-rest n k x xs e) (within-counted k x w (fine-first n k x xs e))
 
-pub judged-within : (text : List ℕ) {z : Counts} → judge text ≡ answered z → Within z
-unfolding judge
+pub judged-within : (text : List ℕ) {z : Counts} → judgeText text ≡ answered z → Within z
+unfolding judgeText
 judged-within text e = limits 1 noCounts (linesOf text) e none-within
 
 -- what a line is worth where k counts the lines above it and z all lines

@@ -11,7 +11,7 @@ use Rattle.text.specs.declared.lines.Line.the-variants.{Illegal}
 use Rattle.text.specs.declared.counts.Counts.{Counts}
 use Rattle.text.specs.Bytes.{place}
 use Rattle.text.specs.Lines.{lineOf, linesOf}
-use Rattle.text.specs.Read.{counted, judgeFrom, noCounts, judge}
+use Rattle.text.specs.Read.{counted, judgeFrom, noCounts, judgeText}
 use Rattle.text.proofs.Passed.{Within, none-within, within-counted, Passes, fine-first, passes-first, passes-rest}
 use Rattle.text.proofs.Parts.{rest, rest-length}
 use Rattle.text.proofs.LineCuts.{place-within, lines-unended, lines-next}
@@ -23,8 +23,8 @@ pub record Passing (text : List ℕ) (k z : Counts) (at : ℕ) : Type 0 where
   pub within : Within k
   pub judged : judgeFrom line k (linesOf (drop at text)) ≡ answered z
 
-pub passing-first : (text : List ℕ) {z : Counts} → judge text ≡ answered z → Passing text noCounts z 0
-unfolding judge
+pub passing-first : (text : List ℕ) {z : Counts} → judgeText text ≡ answered z → Passing text noCounts z 0
+unfolding judgeText
 passing-first text e = record { line = 1; inside = omega arith; within = none-within; judged = e }
 
 -- p: where the first LF of the bytes left stands

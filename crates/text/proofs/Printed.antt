@@ -17,7 +17,7 @@ use Rattle.text.specs.declared.lines.Line.the-variants.{Vertex, Edge, Il
 use Rattle.text.specs.declared.counts.Counts.{Counts}
 use Rattle.text.specs.Lines.{linesOf}
 use Rattle.text.specs.Print.{decimal, initialBy, vertexText, edgeText, verticesText, edgesText, printed, Prints}
-use Rattle.text.specs.Read.{dear, initialWord, counted, judgeFrom, noCounts, judge, initialsOf, edgesOf, graphOf, graphBy, readGraph}
+use Rattle.text.specs.Read.{dear, initialWord, counted, judgeFrom, noCounts, judgeText, initialsOf, edgesOf, graphOf, graphBy, readGraph}
 use Rattle.text.proofs.LineTexts.{initialText, lineText, LegalCost, Legal, AllLegal, linesText, lines-of, lines-text}
 use Rattle.text.proofs.GraphLines.{graphOfLines, graphLines, graph-of-lines, graph-answered}
 use Rattle.model.proofs.Replies.{answered-refused}
@@ -91,9 +91,9 @@ judged-printed xs e = judged-text 1 noCounts xs e
 
 only : (text : List ℕ) (g : Graph) → readGraph text ≡ answered g → text ≡ printed g
 unfolding readGraph
-only text g e = go (judge text) refl e
+only text g e = go (judgeText text) refl e
   where
-    go : (r : Reply Counts) → judge text ≡ r → graphBy r (graphOf text) ≡ answered g → text ≡ printed g
+    go : (r : Reply Counts) → judgeText text ≡ r → graphBy r (graphOf text) ≡ answered g → text ≡ printed g
     go (answered z) j q =
         let same : graphOf text ≡ g = cc in
         lines-text text (judged-legal 1 noCounts (linesOf text) none-within j) ∙ judged-printed (linesOf text) j ∙ ap printed same

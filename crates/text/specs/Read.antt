@@ -61,9 +61,9 @@ judgeFrom n k (x ∷ xs) = unlessFault (firstFault (lineFaults k x)) n (judgeFro
 abbrev pub noCounts : Counts
 noCounts = record { vertices = 0; edges = 0 }
 
-unfoldable pub judge : List ℕ → Reply Counts
+unfoldable pub judgeText : List ℕ → Reply Counts
 unfolding judgeFrom linesOf
-judge text = judgeFrom 1 noCounts (linesOf text)
+judgeText text = judgeFrom 1 noCounts (linesOf text)
 
 -- what "first" means, of lines below those that k counts, the first of them line n: the lines above line `at` have no fault, and of its
 -- own faults f is the first
@@ -80,7 +80,7 @@ FirstFault text f at = FaultFrom 1 noCounts (linesOf text) f at
 
 -- "Given exactly if", "Order: .. then lines downward (each 1, 2, 4, 3)"
 abbrev pub RefusedExactly : Type 0
-RefusedExactly = (text : List ℕ) (f at : ℕ) → (judge text ≡ refused f at) ↔ FirstFault text f at
+RefusedExactly = (text : List ℕ) (f at : ℕ) → (judgeText text ≡ refused f at) ↔ FirstFault text f at
 
 -- ---- the graph: "numbers run 0, 1, 2 in order"; "Links are numbered from 0 in file order"
 
@@ -109,8 +109,8 @@ graphBy (answered k) g = answered g
 graphBy (refused f n) g = refused f n
 
 unfoldable pub readGraph : List ℕ → Reply Graph
-unfolding judge graphOf
-readGraph text = graphBy (judge text) (graphOf text)
+unfolding judgeText graphOf
+readGraph text = graphBy (judgeText text) (graphOf text)
 
 -- ---- what the answers of the code say in these values
 

@@ -11,7 +11,7 @@ ghost use mathlib.Core.Path.{_≡_};
 ghost use Prim.Native.Nat.{_+_, _<_, _≤_};
 ghost use Rattle.model.specs.Limits.{vertexLimit, edgeLimit};
 ghost use Rattle.model.specs.Calls.{firstFault};
-ghost use Rattle.text.specs.Read.{lineFaults, checkFault, counted, judge, judgedReply};
+ghost use Rattle.text.specs.Read.{lineFaults, checkFault, counted, judgeText, judgedReply};
 
 // Vertices and edges.
 pub struct Counts {
@@ -109,8 +109,8 @@ impl Counts {
 }
 
 // The first fault of the text, with its line, or how many vertices and edges it has.
-pub fn judge(text: &[u8]) -> Judged
-    ensures { λ r. ⌜ judgedReply r ≡ judge (now (text .entry)) ⌝ }
+pub fn judge_text(text: &[u8]) -> Judged
+    ensures { λ r. ⌜ judgedReply r ≡ judgeText (now (text .entry)) ⌝ }
 {
     let mut counts = Counts {
         vertices: 0,

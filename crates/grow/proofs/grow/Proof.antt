@@ -26,7 +26,11 @@ set-queued-requires c κs = search can-store
 visit-requires : tie.Need-visit-requires Inv-loop μ-loop
 visit-requires c κs = search can-visit-first
 
--- the ways back from a node's visit: its ticket was popped, opened, and the length stored
+-- ---- places: the node's visit, from where its answer is told; from there, where its ticket was popped, opened, and the length stored
+
+abbrev at-visit : tie.After-slice-known4 Inv-loop μ-loop → tie.After-visit Inv-loop μ-loop
+at-visit c = c .before .before
+
 abbrev at-store : tie.After-visit Inv-loop μ-loop → tie.After-set-queued Inv-loop μ-loop
 at-store v = v .before .before .before .before
 
@@ -41,19 +45,19 @@ at-loop v = at-pop v .before .before
 
 loop-again : tie.Need-loop-again Inv-loop μ-loop
 loop-again c =
-    let v = c .before .before .before .before in
+    let v = at-visit (c .before .before) in
     growing-on (at-loop v .before .loop .inv) (at-loop v .loop-test .taken) _ (at-pop v .pop .kept .0) (at-pop v .pop .ensures) (at-node v .node .given .1)
     (at-store v .set-queued .ensures) (v .visit .ensures) (c .enum-told2 .given .1)
 
 returns-2 : tie.Need-returns-2 Inv-loop μ-loop
 returns-2 c =
-    let v = c .before .before .before .before in
+    let v = at-visit (c .before .before) in
     growing-found (at-loop v .before .loop .inv) (at-loop v .loop-test .taken) _ (at-pop v .pop .kept .0) (at-pop v .pop .ensures) (at-node v .node .given .1)
     (at-store v .set-queued .ensures) (v .visit .ensures) (c .enum-told3 .given .1)
 
 returns-3 : tie.Need-returns-3 Inv-loop μ-loop
 returns-3 c =
-    let v = c .before .before .before .before in
+    let v = at-visit (c .before .before) in
     growing-over (at-loop v .before .loop .inv) (at-loop v .loop-test .taken) _ (at-pop v .pop .kept .0) (at-pop v .pop .ensures) (at-node v .node .given .1)
     (at-store v .set-queued .ensures) (v .visit .ensures) (c .enum-told4 .given .1)
 

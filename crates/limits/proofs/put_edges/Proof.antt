@@ -16,6 +16,14 @@ Inv-loop text₀ start vertices count cost at₀ e₀ text at e = (at ≤ length
 abbrev μ-loop : tie.MeasureT-loop
 μ-loop text₀ start vertices count cost at₀ e₀ text at e = count - e
 
+-- ---- places: the loop, from where an edge is put; where their number is known, from where there are vertices
+
+abbrev at-loop : tie.After-put-edge-arg Inv-loop μ-loop → tie.At-loop Inv-loop μ-loop
+at-loop c = c .before .before .before
+
+abbrev at-vertices : tie.Else1 Inv-loop μ-loop → tie.After-wide Inv-loop μ-loop
+at-vertices c = c .before .before .before
+
 returns : tie.Need-returns Inv-loop μ-loop
 returns c = search needs
 
@@ -27,9 +35,9 @@ returns-2 c = search needs
 
 put-edge-requires : tie.Need-put-edge-requires Inv-loop μ-loop
 put-edge-requires c κs =
-    let at = c .before .before .before .loop in
-    let set = c .before .before .before .before in
-    let vertices = set .before .before .before .wide .result in
+    let at = at-loop c .loop in
+    let set = at-loop c .before in
+    let vertices = at-vertices set .wide .result in
     let some : 0 < vertices = omega (arith, set .if1 .left) in
     let from = 7 * at .e % vertices in
     let to = 3 * at .e % vertices in
@@ -42,9 +50,9 @@ loop-again : tie.Need-loop-again Inv-loop μ-loop
 loop-again c =
     let p = c .before .before .put-edge in
     let a = c .before .before .before in
-    let at = a .before .before .before .loop in
-    let set = a .before .before .before .before in
-    let vertices = set .before .before .before .wide .result in
+    let at = at-loop a .loop in
+    let set = at-loop a .before in
+    let vertices = at-vertices set .wide .result in
     omega (arith, p .ensures .end, p .kept .0, at .inv, a .before .if2 .left, edge-most (7 * at .e % vertices) (3 * at .e % vertices) (set .before .wide3 .result))
 
 returns-3 : tie.Need-returns-3 Inv-loop μ-loop

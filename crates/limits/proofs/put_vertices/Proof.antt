@@ -15,6 +15,14 @@ Inv-loop text₀ count initial at₀ v₀ text at v = (at ≤ length text) × (l
 abbrev μ-loop : tie.MeasureT-loop
 μ-loop text₀ count initial at₀ v₀ text at v = count - v
 
+-- ---- places: the loop, from where a vertex is put; the start, from there
+
+abbrev at-loop : tie.After-put-vertex-arg Inv-loop μ-loop → tie.At-loop Inv-loop μ-loop
+at-loop c = c .before .before .before
+
+abbrev at-start : tie.At-loop Inv-loop μ-loop → tie.Start Inv-loop μ-loop
+at-start c = c .before .before .before
+
 loop-holds : tie.Need-loop-holds Inv-loop μ-loop
 loop-holds c = search needs
 
@@ -23,15 +31,15 @@ returns c = search needs
 
 put-vertex-requires : tie.Need-put-vertex-requires Inv-loop μ-loop
 put-vertex-requires c κs =
-    let at = c .before .before .before .loop in
-    (search needs, omega (arith, at .inv, c .before .if1 .left, vertex-most (at .v) (c .before .before .before .before .before .before .args .s .initial)))
+    let at = at-loop c .loop in
+    (search needs, omega (arith, at .inv, c .before .if1 .left, vertex-most (at .v) (at-start (at-loop c) .args .s .initial)))
 
 loop-again : tie.Need-loop-again Inv-loop μ-loop
 loop-again c =
     let a = c .before .before .before in
     let p = c .before .before .put-vertex in
-    let at = a .before .before .before .loop in
-    omega (arith, p .ensures .end, p .kept .0, at .inv, a .before .if1 .left, vertex-most (at .v) (a .before .before .before .before .before .before .args .s .initial))
+    let at = at-loop a .loop in
+    omega (arith, p .ensures .end, p .kept .0, at .inv, a .before .if1 .left, vertex-most (at .v) (at-start (at-loop a) .args .s .initial))
 
 returns-2 : tie.Need-returns-2 Inv-loop μ-loop
 returns-2 c = search needs

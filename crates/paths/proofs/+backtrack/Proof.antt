@@ -46,12 +46,15 @@ calls m = (
 )
 
 module _ (m : ℕ) where
-  node-vertex-requires : lts.Need-node-vertex-requires (calls m) (at m) reads.Post
-  node-vertex-requires c κs = hung-fits _ _ (c .before .before .before .pre .1 .hung)
+  -- the start, from where the node's vertex is read, and from where it was read
+  abbrev at-start : lts.After-slice-known (calls m) (at m) reads.Post → lts.Start (calls m) (at m) reads.Post
+  at-start c = c .before .before .before
 
-  -- the start, seen from where the node's vertex was read
   abbrev first : lts.After-node-vertex (calls m) (at m) reads.Post → lts.Start (calls m) (at m) reads.Post
-  first v = v .before .before .before .before
+  first v = at-start (v .before)
+
+  node-vertex-requires : lts.Need-node-vertex-requires (calls m) (at m) reads.Post
+  node-vertex-requires c κs = hung-fits _ _ (at-start c .pre .1 .hung)
 
   slice-write-path : lts.Need-slice-write-path (calls m) (at m) reads.Post
   slice-write-path c = omega (arith, first (c .before) .pre .1 .room)
@@ -65,15 +68,15 @@ module _ (m : ℕ) where
   node-parent-requires : lts.Need-node-parent-requires (calls m) (at m) reads.Post
   node-parent-requires c κs = hung-fits _ _ (first (c .before) .pre .1 .hung)
 
-  node-edge-requires : lts.Need-node-edge-requires (calls m) (at m) reads.Post
-  node-edge-requires c κs = hung-fits _ _ (first (c .before .before .before) .pre .1 .hung)
-
-  -- the node was read: its vertex, and the start
-  abbrev at-vertex : lts.After-node-edge (calls m) (at m) reads.Post → lts.After-node-vertex (calls m) (at m) reads.Post
-  at-vertex c = c .before .before .before .before
+  -- where the node's vertex was read, from where its edge is read; the start, from where that was read
+  abbrev at-vertex : lts.After-wide (calls m) (at m) reads.Post → lts.After-node-vertex (calls m) (at m) reads.Post
+  at-vertex c = c .before .before .before
 
   abbrev start : lts.After-node-edge (calls m) (at m) reads.Post → lts.Start (calls m) (at m) reads.Post
-  start c = first (at-vertex c)
+  start c = first (at-vertex (c .before))
+
+  node-edge-requires : lts.Need-node-edge-requires (calls m) (at m) reads.Post
+  node-edge-requires c κs = hung-fits _ _ (first (at-vertex c) .pre .1 .hung)
 
   child : (c : lts.After-node-edge (calls m) (at m) reads.Post) → Below
       (start c .args .words .now)
@@ -81,7 +84,7 @@ module _ (m : ℕ) where
       (start c .args .node)
       (c .before .wide .result)
       (c .node-edge .result)
-      (at-vertex c .node-vertex .result)
+      (at-vertex (c .before) .node-vertex .result)
       (length (start c .args .path .now))
   child c =
       record {
@@ -89,7 +92,7 @@ module _ (m : ℕ) where
         child = c .before .before .before .if1 .left;
         parent = c .before .wide .ensures ∙ c .before .before .node-parent .ensures;
         edge = c .node-edge .ensures;
-        vertex = at-vertex c .node-vertex .ensures;
+        vertex = at-vertex (c .before) .node-vertex .ensures;
       }
 
   direction-within : lts.Need-shared-slice-read-if2 (calls m) (at m) reads.Post
@@ -104,51 +107,52 @@ module _ (m : ℕ) where
 
   -- ---- forward
 
+  -- where the node's edge was read, from where its parent's path is sought
+  abbrev at-edge : lts.After-backtrack-arg (calls m) (at m) reads.Post → lts.After-node-edge (calls m) (at m) reads.Post
+  at-edge c = c .before .before .before
+
   backtrack-requires : lts.Need-backtrack-requires (calls m) (at m) reads.Post
-  backtrack-requires c κs = let e = c .before .before .before in (lower e, parent-can (child e) (omega arith))
+  backtrack-requires c κs = let e = at-edge c in (lower e, parent-can (child e) (omega arith))
 
-  abbrev at-edge : lts.After-backtrack (calls m) (at m) reads.Post → lts.After-node-edge (calls m) (at m) reads.Post
-  at-edge c = c .before .before .before .before
-
-  room : (c : lts.After-backtrack (calls m) (at m) reads.Post) → c .backtrack .result + 2 ≤ length (start (at-edge c) .args .path .now)
-  room c = parent-room (child (at-edge c)) (c .backtrack .ensures)
+  room : (c : lts.After-backtrack (calls m) (at m) reads.Post) → c .backtrack .result + 2 ≤ length (start (at-edge (c .before)) .args .path .now)
+  room c = parent-room (child (at-edge (c .before))) (c .backtrack .ensures)
 
   few : (c : lts.After-backtrack (calls m) (at m) reads.Post) → (c .backtrack .result + 2) * 4 < 9223372036854775808
-  few c = omega (arith, room c, short (at-edge c))
+  few c = omega (arith, room c, short (at-edge (c .before)))
 
   returns-2 : lts.Need-returns-2 (calls m) (at m) reads.Post
   returns-2 c =
       let called = c .before .before in
-      forward-backtracks (child (at-edge called)) (called .before .before .if2 .taken) (called .backtrack .ensures)
+      forward-backtracks (child (at-edge (called .before))) (called .before .before .if2 .taken) (called .backtrack .ensures)
 
   -- ---- backward
 
+  abbrev at-edge-2 : lts.After-backtrack-arg2 (calls m) (at m) reads.Post → lts.After-node-edge (calls m) (at m) reads.Post
+  at-edge-2 c = c .before .before .before
+
   backtrack-requires-2 : lts.Need-backtrack-requires-2 (calls m) (at m) reads.Post
   backtrack-requires-2 c κs =
-      let e = c .before .before .before in
+      let e = at-edge-2 c in
       let b = child e in
       let path = start e .args .path .now in
       (lower e, parent-can b (omega (arith, two-words b, mid-len 2 (length path) path (omega arith))))
 
-  abbrev at-edge-2 : lts.After-backtrack2 (calls m) (at m) reads.Post → lts.After-node-edge (calls m) (at m) reads.Post
-  at-edge-2 c = c .before .before .before .before
-
   few-2 : (c : lts.After-backtrack2 (calls m) (at m) reads.Post) → (c .backtrack2 .result + 2) * 4 < 9223372036854775808
-  few-2 c = omega (arith, parent-room (child (at-edge-2 c)) (c .backtrack2 .ensures), short (at-edge-2 c))
+  few-2 c = omega (arith, parent-room (child (at-edge-2 (c .before))) (c .backtrack2 .ensures), short (at-edge-2 (c .before)))
 
   -- the slice when its part is back
   abbrev back : lts.After-backtrack2 (calls m) (at m) reads.Post → List ℕ
   back c =
-      let path = start (at-edge-2 c) .args .path .now in
+      let path = start (at-edge-2 (c .before)) .args .path .now in
       putMid 2 (length path - 2) path (c .backtrack2 .last .1 .1 .1 .0)
 
-  back-length : (c : lts.After-backtrack2 (calls m) (at m) reads.Post) → length (back c) ≡ length (start (at-edge-2 c) .args .path .now)
+  back-length : (c : lts.After-backtrack2 (calls m) (at m) reads.Post) → length (back c) ≡ length (start (at-edge-2 (c .before)) .args .path .now)
   back-length c =
-      let path = start (at-edge-2 c) .args .path .now in
+      let path = start (at-edge-2 (c .before)) .args .path .now in
       same-len-mid 2 (length path - 2) path (c .backtrack2 .last .1 .1 .1 .0) (c .backtrack2 .kept .1 .1 .1 .0)
 
   back-room : (c : lts.After-backtrack2 (calls m) (at m) reads.Post) → 1 < length (back c)
-  back-room c = omega (arith, two-words (child (at-edge-2 c)), back-length c)
+  back-room c = omega (arith, two-words (child (at-edge-2 (c .before))), back-length c)
 
   slice-write-path-4 : lts.Need-slice-write-path-4 (calls m) (at m) reads.Post
   slice-write-path-4 c = omega (arith, back-room (c .before .before))
@@ -156,7 +160,7 @@ module _ (m : ℕ) where
   returns-3 : lts.Need-returns-3 (calls m) (at m) reads.Post
   returns-3 c =
       let called = c .before .before in
-      backward-backtracks (child (at-edge-2 called)) (called .before .before .if2 .left) (called .backtrack2 .ensures)
+      backward-backtracks (child (at-edge-2 (called .before))) (called .before .before .if2 .left) (called .backtrack2 .ensures)
 
 pub +backtrack-spec : {M : Type 1} → statement M
 +backtrack-spec =

@@ -10,13 +10,13 @@ put-byte-requires : tie.Need-put-byte-requires
 put-byte-requires c κs = let room = rw (eq-eqb _ _ (c .before .if1 .taken)) at (c .before .before .before .pre) in omega (arith, room)
 
 returns : tie.Need-returns
-returns c = rw (eq-eqb _ _ (c .before .before .before .before .if1 .taken)) (c .before .before .put-byte .ensures)
+returns c = let p = c .before .before in rw (eq-eqb _ _ (p .before .before .if1 .taken)) (p .put-byte .ensures)
 
 put-word-requires : tie.Need-put-word-requires
 put-word-requires c κs = rw (ne-eqb _ _ (c .before .if1 .left)) at (c .before .before .before .pre)
 
 returns-2 : tie.Need-returns-2
-returns-2 c = rw (ne-eqb _ _ (c .before .before .before .before .if1 .left)) (c .before .before .put-word .ensures)
+returns-2 c = let p = c .before .before in rw (ne-eqb _ _ (p .before .before .if1 .left)) (p .put-word .ensures)
 
 pub put-initial-spec : {M : Type 1} → statement M
 put-initial-spec =

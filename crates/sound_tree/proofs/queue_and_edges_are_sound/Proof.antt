@@ -10,12 +10,16 @@ use Rattle.sound_tree.proofs.queue_and_edges_are_sound.Tie as tie
 few : (c : tie.After-closed-edges) → c .closed-edges .result ≤ 2048
 few c = search few-edges
 
+-- where the closed edges were counted, from where the nodes were
+abbrev at-edges : tie.After-wide → tie.After-closed-edges
+at-edges c = c .before .before
+
 add-if3 : tie.Need-add-if3
-add-if3 c = omega (arith, few (c .before .before))
+add-if3 c = omega (arith, few (at-edges c))
 
 -- places of the code, seen from the test of the count of nodes: the test of the closed words, of the queue words, their check, the start
 abbrev at-if2 : tie.Else3 → tie.Else2
-at-if2 c = c .before .before .before .before
+at-if2 c = at-edges (c .before) .before
 
 abbrev at-if1 : tie.Else3 → tie.Else1
 at-if1 c = at-if2 c .before .before

@@ -1,4 +1,4 @@
--- `text::counts::judge` meets its contract: a turn judges the first of the lines left. The measure is the bytes left.
+-- `text::counts::judge_text` meets its contract: a turn judges the first of the lines left. The measure is the bytes left.
 -- Assumes nothing.
 use mathlib.Core.Path.{sym, ap, _∙_}
 use Prim.Native.Nat.{_-_, _≤_}
@@ -8,8 +8,8 @@ use lib.ListN.{length}
 use Rattle.text.specs.Read.{checkFault, judgedReply}
 use Rattle.text.proofs.Judged.{Judging, judging-first, judged-last, judged-unended, judged-fault, judging-next}
 use Rattle.text.proofs.LineCuts.{place-within}
-use Rattle.text.proofs.counts.judge.Statement.{statement}
-use Rattle.text.proofs.counts.judge.Tie as tie
+use Rattle.text.proofs.counts.judge_text.Statement.{statement}
+use Rattle.text.proofs.counts.judge_text.Tie as tie
 
 abbrev Inv-loop : tie.InvT-loop
 Inv-loop text counts₀ above₀ at₀ counts above at = Judging text counts above at
@@ -67,8 +67,8 @@ loop-again c =
 returns-3 : tie.Need-returns-3 Inv-loop μ-loop
 returns-3 c = judged-last (c .before .loop .inv) (c .loop-test .left)
 
-pub judge-spec : {M : Type 1} → statement M
-judge-spec =
+pub judge-text-spec : {M : Type 1} → statement M
+judge-text-spec =
     tie.close
     (tie.spec
     Inv-loop
