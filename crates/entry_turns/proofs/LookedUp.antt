@@ -12,15 +12,11 @@ use Rattle.model.specs.Search.{closedCount, remembers, lookupIf, lookup}
 use Rattle.tree.specs.Tree.{treeOf, CheapestIs}
 use Rattle.entry_turns.specs.Turn.{looksUp}
 
-module _ (d : Domain) (l : ℕ) (t gs : List ℕ) (known : KnownLen) {n : ℕ} {k : Bool} (count : n ≡ closedCount (treeOf l t .closed)) (test : k ≡ remembers known n) where
-  -- what the test says of the tree
-  tested : k ≡ remembers known (closedCount (treeOf l t .closed))
-  tested = test ∙ ap (remembers known) count
-
+module _ (d : Domain) (l : ℕ) (t gs : List ℕ) (known : KnownLen) {k : Bool} (test : k ≡ remembers known (closedCount (treeOf l t .closed))) where
   pub known-finds : k ≡ true → looksUp d l t gs known Unsolved
   unfolding lookup
-  known-finds e = sym (ap (λ (b : Bool). lookupIf b d (treeOf l t .nodes) (treeOf l t .closed) gs) (sym tested ∙ e))
+  known-finds e = sym (ap (λ (b : Bool). lookupIf b d (treeOf l t .nodes) (treeOf l t .closed) gs) (sym test ∙ e))
 
   pub unknown-finds : {r : Solution} → k ≡ false → CheapestIs d l t gs r → looksUp d l t gs known r
   unfolding lookup
-  unknown-finds e c = c ∙ sym (ap (λ (b : Bool). lookupIf b d (treeOf l t .nodes) (treeOf l t .closed) gs) (sym tested ∙ e))
+  unknown-finds e c = c ∙ sym (ap (λ (b : Bool). lookupIf b d (treeOf l t .nodes) (treeOf l t .closed) gs) (sym test ∙ e))

@@ -13,7 +13,7 @@ use tree::partial_keyed_closed_set::cheapest_goal;
 use tree::partial_keyed_closed_set::closed_keys_len;
 ghost use mathlib.Core.Path.{_≡_};
 ghost use Rattle.model.specs.Tree.{least};
-ghost use Rattle.model.specs.Search.{remembers, grown, under, cheaper};
+ghost use Rattle.model.specs.Search.{closedCount, remembers, grown, under, cheaper};
 ghost use Rattle.layout.specs.Read.{readCache};
 ghost use Rattle.tree.specs.Tree.{treeOf, Formed};
 ghost use Rattle.grow.specs.Grow.{growthOf};
@@ -79,7 +79,7 @@ pub fn step_trees(words: &mut [u32], search: Search) -> Turned
 }
 
 // The entry that found the best; with no best, any.
-fn best_entry(best: BestSolution) -> usize
+pub fn best_entry(best: BestSolution) -> usize
     ensures { λ r. ⌜ r ≡ bestEntry best ⌝ }
 {
     match best {
@@ -130,18 +130,20 @@ fn look_up_in(words: &[u32], tree: &[u32], edges: usize, goals: &[u32], known: K
     requires { ⌜ CanLookUp edges (now tree) (now goals) ⌝ }
     ensures { λ r. ⌜ looksUp (readCache (now (words .entry)) .domain) edges (now (tree .entry)) (now (goals .entry)) known r ⌝ }
 {
-    if is_known(known, closed_keys_len(tree, edges)) {
+    if is_known(tree, edges, known) {
         return Solution::Unsolved;
     }
     cheapest_goal(words, tree, edges, goals)
 }
 
-fn is_known(known: KnownLen, len: u32) -> bool
-    ensures { λ r. ⌜ r ≡ remembers known len ⌝ }
+// Whether the closed count is the remembered one. Where none is remembered nothing is counted.
+fn is_known(tree: &[u32], edges: usize, known: KnownLen) -> bool
+    requires { ⌜ Formed edges (now tree) ⌝ }
+    ensures { λ r. ⌜ r ≡ remembers known (closedCount (treeOf edges (now (tree .entry)) .closed)) ⌝ }
 {
     match known {
         KnownLen::Never => false,
-        KnownLen::Len(k) => len == k,
+        KnownLen::Len(k) => closed_keys_len(tree, edges) == k,
     }
 }
 
