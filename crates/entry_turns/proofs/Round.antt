@@ -30,7 +30,7 @@ use Rattle.memory.specs.Memory.{Fits, FitsWords, HasNode}
 use Rattle.memory.proofs.Fits.{in-use, best-few, best-node}
 use Rattle.entry_turns.specs.declared.Outcome.{Outcome}
 use Rattle.entry_turns.specs.declared.Found.{Found}
-use Rattle.entry_turns.specs.Turn.{treeAt, bestEntry, CanBound, boundIn, CanTurn, turnOf, Turns, CanRecord, foundIn, foundOf}
+use Rattle.entry_turns.specs.Turn.{CanStep, treeAt, bestEntry, CanBound, boundIn, CanTurn, turnOf, Turns, CanRecord, foundIn, foundOf}
 use Rattle.entry_turns.proofs.Held.{withFound, with-found}
 use Rattle.entry_turns.proofs.Turning.{turn-few}
 use Rattle.entry_turns.proofs.Fits.{round-fits}
@@ -39,8 +39,7 @@ use Rattle.layout.specs.Layout.{edgesIn, verticesIn}
 
 -- i is an entry of a record that fits the words
 pub record HasEntry (ws : List ℕ) (s : Search) (i : ℕ) : Type 0 where
-  pub sound : SoundWords ws
-  pub fits : FitsWords ws s
+  pub can : CanStep ws s
   pub is-entry : i < s .«tree_count»
 
 abbrev pub roundOf : List ℕ → Search → ℕ → Walk
@@ -60,6 +59,13 @@ bound-in : (d : Domain) (ts : List Tree) (s : Search) (x : BestSolution) → bou
 bound-in d ts s NoBest = refl
 bound-in d ts s (Best i n) = refl
 
+pub best-place : {ws : List ℕ} {s : Search} → CanStep ws s → {j : ℕ} → j ≡ bestEntry (s .«best_solution») → j < 64
+best-place {ws} {s} can {j} e = go (s .«best_solution») refl e
+  where
+    go : (x : BestSolution) → s .«best_solution» ≡ x → j ≡ bestEntry x → j < 64
+    go NoBest z h = omega arith
+    go (Best k n) z h = omega (arith, best-few (can .sound) (can .fits) z)
+
 module _ {ws : List ℕ} {s : Search} {i : ℕ} (has : HasEntry ws s i) where
   abbrev slot : ℕ
   slot = entry s i .tree
@@ -74,23 +80,16 @@ module _ {ws : List ℕ} {s : Search} {i : ℕ} (has : HasEntry ws s i) where
   most = bound d ts s
 
   used : InUse ws slot
-  used = in-use (has .sound) (has .fits .held i (has .is-entry) .slot)
+  used = in-use (has .can .sound) (has .can .fits .held i (has .is-entry) .slot)
 
   pub entry-few : i < 64
-  entry-few = omega (arith, has .is-entry, has .fits .listed .entries)
+  entry-few = omega (arith, has .is-entry, has .can .fits .listed .entries)
 
   -- ---- the bound
 
-  pub best-place : {j : ℕ} → j ≡ bestEntry (s .«best_solution») → j < 64
-  best-place {j} e = go (s .«best_solution») refl e
-    where
-      go : (x : BestSolution) → s .«best_solution» ≡ x → j ≡ bestEntry x → j < 64
-      go NoBest z h = omega arith
-      go (Best k n) z h = omega (arith, best-few (has .sound) (has .fits) z)
-
   module _ {j : ℕ} (e : j ≡ bestEntry (s .«best_solution»)) where
     pub can-bound : CanBound ws (s .«best_solution») (entry s j .tree)
-    can-bound k n z = subst (λ (m : ℕ). HasNode ws (entry s m .tree) n) (sym (e ∙ ap bestEntry z)) (best-node (has .sound) (has .fits) z)
+    can-bound k n z = subst (λ (m : ℕ). HasNode ws (entry s m .tree) n) (sym (e ∙ ap bestEntry z)) (best-node (has .can .sound) (has .can .fits) z)
 
     pub bound-is : {b : CostBound} → b ≡ boundIn d (treeAt ws (entry s j .tree) .nodes) (s .«best_solution») → b ≡ most
     bound-is h =
@@ -106,9 +105,9 @@ module _ {ws : List ℕ} {s : Search} {i : ℕ} (has : HasEntry ws s i) where
       where
         below : (j : ℕ) → j < length gs → getD gs j 0 < verticesIn ws
         below j h =
-            let long : length (goals s) ≡ s .«goal_count» = length-take-le (s .«goal_count») (s .«goal_keys») (omega (arith, has .fits .listed .keys, has .fits .listed .goals)) in
+            let long : length (goals s) ≡ s .«goal_count» = length-take-le (s .«goal_count») (s .«goal_keys») (omega (arith, has .can .fits .listed .keys, has .can .fits .listed .goals)) in
             let few : j < s .«goal_count» = omega (arith, ap length e, long) in
-            omega (arith, ap (λ (l : List ℕ). getD l j 0) e, getD-take (s .«goal_count») (s .«goal_keys») j 0 few, has .fits .goals j few)
+            omega (arith, ap (λ (l : List ℕ). getD l j 0) e, getD-take (s .«goal_count») (s .«goal_keys») j 0 few, has .can .fits .goals j few)
 
     module _ {b : CostBound} {r : Outcome} {left : List ℕ} (most-is : b ≡ most) (lent : Turns ws slot (turnOf ws (entry s i) gs b) r left) where
       abbrev u : Turn
@@ -120,10 +119,10 @@ module _ {ws : List ℕ} {s : Search} {i : ℕ} (has : HasEntry ws s i) where
           (subst (λ (l : List ℕ). Turns ws slot (turnOf ws (entry s i) l b) r left) e lent)
 
       acc : Accepted (d .graph)
-      acc = sound-accepted ws (has .sound)
+      acc = sound-accepted ws (has .can .sound)
 
       sound-tree : Sound d (treeAt ws slot)
-      sound-tree = sound-cache ws (has .sound) .trees .each slot (has .fits .held i (has .is-entry) .slot)
+      sound-tree = sound-cache ws (has .can .sound) .trees .each slot (has .can .fits .held i (has .is-entry) .slot)
 
       left-tree : treeAt left slot ≡ u .tree
       left-tree = tree-left left used (u .tree) (turns .cache)
@@ -136,7 +135,7 @@ module _ {ws : List ℕ} {s : Search} {i : ℕ} (has : HasEntry ws s i) where
       vertices-left = turns .outside .word 1 (inl (omega arith))
 
       fit : Fits (verticesIn ws) (roundOf ws s i .trees) (roundOf ws s i .search)
-      fit = round-fits d acc i (record { trees = ts; search = s; tickets = 0 }) (sound-cache ws (has .sound) .trees) (has .is-entry) (has .fits)
+      fit = round-fits d acc i (record { trees = ts; search = s; tickets = 0 }) (sound-cache ws (has .can .sound) .trees) (has .is-entry) (has .can .fits)
 
       -- what the entry held stays, and the find is a node of the tree left
       pub can-record : CanRecord left (entry s i) (r .find)
@@ -144,7 +143,7 @@ module _ {ws : List ℕ} {s : Search} {i : ℕ} (has : HasEntry ws s i) where
           let more = turn-keeps d acc (goals s) most (treeAt ws slot) (entry s i .«last_known_closed_len») sound-tree .1 .longer in
           record {
             used = record { sound = turns .sound; slot = omega (arith, used .slot, turns .outside .word 4 (inl (omega arith))) };
-            held = λ n z. rw left-tree (omega (arith, more, has .fits .held i (has .is-entry) .node n z));
+            held = λ n z. rw left-tree (omega (arith, more, has .can .fits .held i (has .is-entry) .node n z));
             find = λ n z. rw left-tree (find-in d acc (goals s) most (treeAt ws slot) (entry s i .«last_known_closed_len») sound-tree n (sym (turns .find) ∙ z));
           }
 

@@ -9,6 +9,7 @@ use native.Mathlib.Omega.{arith}
 use native.Mathlib.Decide.{decLt}
 use native.Mathlib.Numerals.{add-one}
 use lib.ListN.{getD, take}
+use Rattle.model.specs.Limits.{stepTickets}
 use Rattle.model.specs.declared.Search.{Search}
 use Rattle.model.specs.Graph.{Domain}
 use Rattle.model.specs.Search.{entry, goals, withExhausted, Walk, round, rounds, walk}
@@ -118,13 +119,13 @@ module _ {ws : List ℕ} {s : Search} {words : List ℕ} {next : Search} {k i : 
 
   module _ (h : i < s .«tree_count») where
     pub has-entry : HasEntry words next i
-    has-entry = record { sound = w .sound; fits = w .fits; is-entry = omega (arith, w .count) }
+    has-entry = record { can = record { sound = w .sound; fits = w .fits }; is-entry = omega (arith, w .count) }
 
     -- the part of the goals that is lent
     pub goals-lent : take (s .«goal_count» - 0) (s .«goal_keys») ≡ goals next
     goals-lent = let all : s .«goal_count» - 0 ≡ s .«goal_count» = omega arith in ap (λ (n : ℕ). take n (s .«goal_keys»)) all ∙ sym (w .goals-stay)
 
-    pub walked-few : k ≤ 640
+    pub walked-few : k ≤ stepTickets
     walked-few = omega (arith, w .few, w .can .fits .listed .entries)
 
     pub walked-index : i < 64

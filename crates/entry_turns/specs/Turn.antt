@@ -19,7 +19,7 @@ use Rattle.model.specs.declared.Search.{Search}
 use Rattle.model.specs.Graph.{Domain}
 use Rattle.model.specs.Tree.{Tree, Node, least}
 use Rattle.model.specs.Sound.{tree}
-use Rattle.model.specs.Search.{solutionCost, entry, closedCount, lookup, under, cheaper, Turn, turn, Walk, walk}
+use Rattle.model.specs.Search.{solutionCost, entry, closedCount, remembers, lookup, under, cheaper, Turn, turn, Walk, walk}
 use Rattle.model.specs.Calls.{withTrees}
 use Rattle.layout.specs.Layout.{slotAt, treeWords, edgesIn, verticesIn}
 use Rattle.layout.specs.Read.{readCache}
@@ -109,6 +109,10 @@ looksUp d ws l t gs known r = r ≡ lookup d (treeOf ws l t) gs known
 
 abbrev pub LooksUp : List ℕ → ℕ → List ℕ → KnownLen → Solution → Type 0
 LooksUp ws i gs known r = r ≡ lookup (readCache ws .domain) (treeAt ws i) gs known
+
+-- for the words ws of any cache: whether the closed count of the tree t is the remembered one
+abbrev pub KnownIs : ℕ → List ℕ → KnownLen → Bool → Type 0
+KnownIs l t known r = (ws : List ℕ) → r ≡ remembers known (closedCount (treeOf ws l t .closed))
 
 -- ---- 2. and 3. "the closed count is remembered, and a queue .. keeps the search unfinished"
 

@@ -12,12 +12,12 @@ use model::TreeMemory;
 use tree::partial_keyed_closed_set::cheapest_goal;
 use tree::partial_keyed_closed_set::closed_keys_len;
 ghost use mathlib.Core.Path.{_≡_};
-ghost use Rattle.model.specs.Search.{remembers, grown, cheaper};
+ghost use Rattle.model.specs.Search.{grown, cheaper};
 ghost use Rattle.layout.specs.Read.{readCache};
 ghost use Rattle.tree.specs.Tree.{Formed};
 ghost use Rattle.grow.specs.Grow.{growthOf};
 ghost use Rattle.sound.specs.Facts.{InUse};
-ghost use Rattle.entry_turns.specs.Turn.{CanStep, Steps, treeAt, bestEntry, CanBound, boundIn, CanTurn, turnOf, Turns, LooksUp, CanLookUp, looksUp, UnderIs, Remembers, CanRecord, foundOf, CanCompare, dearerIn};
+ghost use Rattle.entry_turns.specs.Turn.{CanStep, Steps, treeAt, bestEntry, CanBound, boundIn, CanTurn, turnOf, Turns, LooksUp, CanLookUp, looksUp, KnownIs, UnderIs, Remembers, CanRecord, foundOf, CanCompare, dearerIn};
 
 // The search after some turns, and the tickets taken in them.
 pub struct Turned {
@@ -78,7 +78,7 @@ pub fn step_trees(words: &mut [u32], search: Search) -> Turned
 }
 
 // The entry that found the best; with no best, any.
-fn best_entry(best: BestSolution) -> usize
+pub fn best_entry(best: BestSolution) -> usize
     ensures { λ r. ⌜ r ≡ bestEntry best ⌝ }
 {
     match best {
@@ -129,18 +129,20 @@ fn look_up_in(words: &[u32], tree: &[u32], edges: usize, goals: &[u32], known: K
     requires { ⌜ CanLookUp edges (now tree) (now goals) ⌝ }
     ensures { λ r. ⌜ looksUp (readCache (now (words .entry)) .domain) (now (words .entry)) edges (now (tree .entry)) (now (goals .entry)) known r ⌝ }
 {
-    if is_known(known, closed_keys_len(tree, edges)) {
+    if is_known(tree, edges, known) {
         return Solution::Unsolved;
     }
     cheapest_goal(words, tree, edges, goals)
 }
 
-fn is_known(known: KnownLen, len: u32) -> bool
-    ensures { λ r. ⌜ r ≡ remembers known len ⌝ }
+// Whether the closed count is the remembered one. Where none is remembered nothing is counted.
+fn is_known(tree: &[u32], edges: usize, known: KnownLen) -> bool
+    requires { ⌜ Formed edges (now tree) ⌝ }
+    ensures { λ r. ⌜ KnownIs edges (now (tree .entry)) known r ⌝ }
 {
     match known {
         KnownLen::Never => false,
-        KnownLen::Len(k) => len == k,
+        KnownLen::Len(k) => closed_keys_len(tree, edges) == k,
     }
 }
 

@@ -22,9 +22,10 @@ use Rattle.model.specs.Lists.{mem, allb, allBelow}
 use Rattle.model.specs.Worth.{node, solutionCost}
 use Rattle.model.specs.Sound.{tree}
 use Rattle.model.specs.Search.{entry, entries, goals}
-use Rattle.model.specs.Valid.{listTests, knownWithin, closesGoal, solutionCloses, entryTests, everyb, bestTests, bestCloses, heldCost, validTests, valid}
+use Rattle.model.specs.Valid.{listTests, knownWithin, closesGoal, solutionCloses, entryTests, everyb, bestTests, bestCloses, heldCost, almostTests, almost, valid}
 use Rattle.model.proofs.Bools.{and-true, all-true}
 use Rattle.model.proofs.Valid.{every-at, entries-length, entries-at}
+use Rattle.model.proofs.StaysValid.{valid-almost}
 use Rattle.layout.specs.Read.{readCache}
 use Rattle.tree.proofs.Parts.{below-in}
 use Rattle.sound.specs.Facts.{SoundWords, InUse}
@@ -111,9 +112,13 @@ module _ (ws : List ℕ) (s : Search) (ok : SoundWords ws) (l : Listed s) where
           (counted, closes-node ok (goals s) (held-at i counted .slot) n (q .1 .0));
     }
 
-pub valid-fits : (ws : List ℕ) (s : Search) → SoundWords ws → valid (readCache ws .domain) (readCache ws .trees) s ≡ true → FitsWords ws s
-unfolding valid
-valid-fits ws s ok e =
-    let r = all-true (validTests (readCache ws .domain) (readCache ws .trees) s) e in
+-- the last test is not needed
+pub almost-fits : (ws : List ℕ) (s : Search) → SoundWords ws → almost (readCache ws .domain) (readCache ws .trees) s ≡ true → FitsWords ws s
+unfolding almost
+almost-fits ws s ok e =
+    let r = all-true (almostTests (readCache ws .domain) (readCache ws .trees) s) e in
     let below = subst (λ (m : ℕ). allBelow m (goals s) ≡ true) (vertices-read ok) (r .1 .0) in
     fits-at ws s ok (listed-at s (r .0)) (r .1 .1 .0) below (r .1 .1 .1 .0)
+
+pub valid-fits : (ws : List ℕ) (s : Search) → SoundWords ws → valid (readCache ws .domain) (readCache ws .trees) s ≡ true → FitsWords ws s
+valid-fits ws s ok e = almost-fits ws s ok (valid-almost (readCache ws .domain) (readCache ws .trees) s e)

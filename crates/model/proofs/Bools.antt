@@ -3,7 +3,7 @@
 use mathlib.Core.Path.{_≡_, refl, sym, ap₂}
 use mathlib.Core.Logic.{_⊎_, inl, inr}
 use mathlib.Core.Bool.{Bool, true, false, _&&_, _||_, true≢false}
-use mathlib.Core.List.{List, [], _∷_, List·Memᴰ, List·Memᴰ·head, List·Memᴰ·tail, List·Memᴰ·not-nil, List·Memᴰ·cases-cons}
+use mathlib.Core.List.{List, [], _∷_, _++_, List·Memᴰ, List·Memᴰ·head, List·Memᴰ·tail, List·Memᴰ·not-nil, List·Memᴰ·cases-cons}
 use Prim.Native.Nat.{ℕ, zero, suc, _<_}
 use native.Mathlib.Nat.{eq-or-lt-of-le, le-of-suc-le-suc}
 use native.Mathlib.Omega.{arith}
@@ -51,6 +51,16 @@ given-map (b ∷ bs) R S f g = λ p. given-map bs R S f (g p)
 pub true-given : (bs : List Bool) → Given bs (allb bs ≡ true)
 true-given [] = refl
 true-given (b ∷ bs) = λ p. given-map bs (allb bs ≡ true) ((b && allb bs) ≡ true) (λ q. true-and b (allb bs) p q) (true-given bs)
+
+-- one test more at the end
+pub all-last : (bs : List Bool) (b : Bool) → allb (bs ++ (b ∷ [])) ≡ (allb bs && b)
+all-last [] b = go b
+  where
+    go : (c : Bool) → (c && true) ≡ c
+    go true = refl
+    go false = refl
+all-last (true ∷ bs) b = all-last bs b
+all-last (false ∷ bs) b = refl
 
 -- ---- over the numbers below n
 

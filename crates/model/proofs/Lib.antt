@@ -19,9 +19,11 @@ pub mod Recorded
 pub mod Turns
 pub mod Faults
 pub mod Keeps
+pub mod Holding
 pub mod Rounds
 pub mod Valid
 pub mod Strange
+pub mod StaysValid
 pub mod Tickets
 pub mod Demand1
 pub mod Opens

@@ -5,14 +5,11 @@ use mathlib.Core.Logic.{_⊎_, inl, inr, _≢_}
 use mathlib.Core.Bool.{Bool, true, false, true≢false}
 use mathlib.Core.List.{List}
 use Prim.Native.Nat.{ℕ, zero, suc, _+_, _<_, _≤_}
-use native.Mathlib.Nat.{le-of-lt, lt-of-lt-of-le}
 use native.Mathlib.Omega.{arith}
 use native.Mathlib.Decide.{ℕ-discrete}
-use borrow.Author.Tests.{ltb-true, ltb-false}
 use lib.ListN.{length, set, length-set}
-use lib.Seq.{getD-set-same, getD-set-other}
 use Rattle.model.specs.declared.CostBound.{CostBound}
-use Rattle.model.specs.declared.CostBound.the-variants.{Unbounded, Bound}
+use Rattle.model.specs.declared.CostBound.the-variants.{Bound}
 use Rattle.model.specs.declared.Solution.{Solution}
 use Rattle.model.specs.declared.Solution.the-variants.{Unsolved, At}
 use Rattle.model.specs.declared.BestSolution.{BestSolution}
@@ -21,15 +18,17 @@ use Rattle.model.specs.declared.TreeMemory.{TreeMemory}
 use Rattle.model.specs.declared.Search.{Search}
 use Rattle.model.specs.Lists.{mem, allBelow}
 use Rattle.model.specs.Graph.{Domain, Accepted, Leads, vertexCount}
-use Rattle.model.specs.Worth.{Node, node, solutionCostOf, solutionCost}
+use Rattle.model.specs.Worth.{Node, solutionCostOf, solutionCost}
 use Rattle.model.specs.Tree.{Tree}
-use Rattle.model.specs.Sound.{tree, noTree, SoundTrees}
-use Rattle.model.specs.Search.{blank, entry, goals, withExhausted, dearer, cheaper, bestIf, boundOf, bound, Turn, turn, Walk, round, rounds, walk}
+use Rattle.model.specs.Sound.{tree, SoundTrees}
+use Rattle.model.specs.Search.{entry, goals, withExhausted, boundOf, bound, Turn, turn, Walk, round, rounds, walk}
 use Rattle.model.proofs.Worth.{pathWorth}
-use Rattle.model.proofs.Turns.{Upto, unsolved-at, hold-held, hold-from, Holds, holds-later, Known, known-later, Under, under-le, Turned, turned}
+use Rattle.model.proofs.Turns.{Upto, Holds, holds-later, Known, known-later, Under, under-le, Turned, turned}
 use Rattle.model.specs.Reference.{exhaustedUnless}
-use Rattle.model.proofs.Recorded.{bestBy, bestAfter, hold, holdIf, entryAfter, after, slot-kept, turnIn, roundAfter, round-after}
-use Rattle.model.proofs.Keeps.{AllLater, all-refl, all-trans, Keeps, set-keeps}
+use Rattle.model.proofs.Recorded.{hold, entryAfter, after, slot-kept, turnIn, roundAfter, round-after}
+use Rattle.model.proofs.Keeps.{AllLater, all-refl, all-trans, Keeps}
+use Rattle.model.proofs.Holding.{Holding, same-node}
+use Rattle.model.proofs.Holding as holding
 
 -- ---- what a search's own record keeps
 
@@ -64,17 +63,13 @@ pub record Ready (O : ℕ → Type 0) (d : Domain) (ts : List Tree) (s : Search)
 -- ---- in later trees
 
 module _ (O : ℕ → Type 0) (d : Domain) (gs : List ℕ) (ts ts′ : List Tree) (ok : SoundTrees d ts) (l : AllLater ts ts′) where
-  -- the node that closed a goal stays as it was
-  pub same-node : (i n : ℕ) → i < length ts → Holds gs (tree ts i) n → node (tree ts′ i .nodes) n ≡ node (tree ts i .nodes) n
-  same-node i n h k = l .each i h .keeps n (ok .each i h .closer _ n (k .closes) .0)
-
   pub entry-later : (b b′ : CostBound) → ((k : ℕ) → Under b k → Under b′ k) → (e : TreeMemory) → EntryOk O d gs ts b e → EntryOk O d gs ts′ b′ e
   entry-later b b′ f e k =
       record {
         own = k .own;
         inside = omega (arith, l .longer, k .inside);
         known = known-later gs (tree ts (e .tree)) (tree ts′ (e .tree)) (e .«last_known_closed_len») (e .solution) (ok .each (e .tree) (k .inside)) (l .each (e .tree) (k .inside)) (k .known);
-        low = λ n z. rw (same-node (e .tree) n (k .inside) (k .known .holds n z)) (f _ (k .low n z));
+        low = λ n z. rw (same-node d gs ts ts′ ok l (e .tree) n (k .inside) (k .known .holds n z)) (f _ (k .low n z));
       }
 
   pub best-later : (s : Search) → ((j : ℕ) → j < s .«tree_count» → (entry s j) .tree < length ts) → (i n : ℕ) → BestOk d gs ts s i n → ((m : ℕ) → (entry s i) .solution ≡ At m → Holds gs (tree ts ((entry s i) .tree)) m) → BestOk d gs ts′ s i n
@@ -85,7 +80,7 @@ module _ (O : ℕ → Type 0) (d : Domain) (gs : List ℕ) (ts ts′ : List Tree
         holds = holds-later gs (tree ts ((entry s i) .tree)) (tree ts′ ((entry s i) .tree)) n (ok .each _ h) (l .each _ h) (k .holds);
         h = k .h;
         held = k .held;
-        level = rw (same-node _ n h (k .holds), same-node _ (k .h) h (f (k .h) (k .held))) (k .level);
+        level = rw (same-node d gs ts ts′ ok l _ n h (k .holds), same-node d gs ts ts′ ok l _ (k .h) h (f (k .h) (k .held))) (k .level);
       }
 
 module _ (O : ℕ → Type 0) (d : Domain) (ts ts′ : List Tree) (ok : SoundTrees d ts) (l : AllLater ts ts′) (s : Search) (r : Ready O d ts s) where
@@ -94,7 +89,7 @@ module _ (O : ℕ → Type 0) (d : Domain) (ts ts′ : List Tree) (ok : SoundTre
     where
       go : (x : BestSolution) → BestsOk d (goals s) ts s x → boundOf d ts′ s x ≡ boundOf d ts s x
       go NoBest k = refl
-      go (Best i n) k = ap (λ (x : Node). Bound (solutionCostOf d x)) (same-node O d (goals s) ts ts′ ok l _ n (r .entries i (k .counted) .inside) (k .holds))
+      go (Best i n) k = ap (λ (x : Node). Bound (solutionCostOf d x)) (same-node d (goals s) ts ts′ ok l _ n (r .entries i (k .counted) .inside) (k .holds))
 
   pub ready-later : Ready O d ts′ s
   ready-later =
@@ -123,24 +118,6 @@ Covered d gs ts b i =
 pub record Gave (ts ts′ : List Tree) (i : ℕ) : Type 0 where
   pub inside : i < length ts
   pub gave : length (tree ts i .nodes) + length (tree ts′ i .waiting) < length (tree ts′ i .nodes) + length (tree ts i .waiting)
-
-not-cheaper : (k : ℕ) (b : CostBound) → cheaper k b ≡ false → Under b k
-not-cheaper k Unbounded e = absurd (true≢false e)
-not-cheaper k (Bound b) e = ltb-false _ _ e
-
-is-cheaper : (k : ℕ) (b : CostBound) → cheaper k b ≡ true → (j : ℕ) → Under b j → k ≤ j
-is-cheaper k Unbounded e j u = absurd u
-is-cheaper k (Bound b) e j u = le-of-lt (lt-of-lt-of-le (ltb-true k b e) u)
-
--- a dearer find is dearer than what is held
-dearer-held : (d : Domain) (ns : List Node) (n : ℕ) (h : Solution) → dearer d ns n h ≡ true → (m : ℕ) × (h ≡ At m) × (solutionCost d ns m ≤ solutionCost d ns n)
-dearer-held d ns n Unsolved e = absurd (true≢false (sym e))
-dearer-held d ns n (At m) e = (m, refl, le-of-lt (ltb-true _ _ e))
-
--- o is a node of cost k, if it names one of at most k and none under k
-held-level : (d : Domain) (ns : List Node) (o : Solution) (k : ℕ) → Upto d ns o k → ((n : ℕ) → o ≡ At n → k ≤ solutionCost d ns n) → (n : ℕ) × (o ≡ At n) × (solutionCost d ns n ≡ k)
-held-level d ns Unsolved k u f = absurd u
-held-level d ns (At n) k u f = (n, refl, omega (arith, f n refl))
 
 module _ (O : ℕ → Type 0) (d : Domain) (acc : Accepted (d .graph)) (ts : List Tree) (s : Search) (ok : SoundTrees d ts) (r : Ready O d ts s) (i : ℕ) (hi : i < s .«tree_count») where
   abbrev gs : List ℕ
@@ -173,174 +150,64 @@ module _ (O : ℕ → Type 0) (d : Domain) (acc : Accepted (d .graph)) (ts : Lis
   T : Turned d gs b (tree ts (e .tree)) (e .«last_known_closed_len») (e .solution) u
   T = turned d acc gs b (tree ts (e .tree)) (ok .each (e .tree) (ke .inside)) (e .«last_known_closed_len») (e .solution) (ke .known)
 
+  -- what the entries hold, before and after
+  holds-before : Holding d ts s
+  holds-before =
+      record {
+        arrays = r .arrays;
+        counts = r .counts;
+        entries = λ j h. let k = r .entries j h in record { inside = k .inside; holds = k .known .holds; low = k .low };
+        best = λ j n z. let k : BestOk d gs ts s j n = subst (BestsOk d gs ts s) z (r .best) in (k .counted, k .holds);
+      }
+
+  holds-after : Holding d ts₁ s₁
+  holds-after = holding.after-round d acc ts s ok holds-before i hi
+
   pub round-kept : Keeps d ts ts₁
-  round-kept = set-keeps d ts ok (e .tree) (u .tree) (ke .inside) (T .sound) (T .later)
+  round-kept = holding.kept d acc ts s ok holds-before i hi
 
   at : tree ts₁ (e .tree) ≡ u .tree
-  at = getD-set-same ts (e .tree) (u .tree) noTree (ke .inside)
-
-  -- the entries
-  entry-i : entry s₁ i ≡ entryAfter d e u
-  entry-i = getD-set-same (s .trees) i (entryAfter d e u) blank (omega (arith, r .arrays, r .counts))
-
-  entry-j : (j : ℕ) → j ≢ i → entry s₁ j ≡ entry s j
-  entry-j j n = getD-set-other (s .trees) i j (entryAfter d e u) blank n
+  at = holding.at d acc ts s ok holds-before i hi
 
   pub round-slot : (j : ℕ) → (entry s₁ j) .tree ≡ (entry s j) .tree
   round-slot j = slot-kept d (bound d ts s) s i u j
 
-  -- a solution held, in the tree after the turn
-  held-cost : (n : ℕ) → e .solution ≡ At n → solutionCost d ns n ≡ solutionCost d (tree ts (e .tree) .nodes) n
-  held-cost n z = ap (λ (x : Node). solutionCostOf d x) (T .later .keeps n (ok .each (e .tree) (ke .inside) .closer _ n (ke .known .holds n z .closes) .0))
-
-  -- the bound of the best as it was, in the trees as they are
-  old-bound : (x : BestSolution) → BestsOk d gs ts s x → boundOf d ts₁ s₁ x ≡ boundOf d ts s x
-  old-bound NoBest k = refl
-  old-bound (Best j n) k =
-      ap (λ (y : ℕ). Bound (solutionCost d (tree ts₁ y .nodes) n)) (round-slot j)
-      ∙ ap (λ (x : Node). Bound (solutionCostOf d x)) (same-node O d gs ts ts₁ ok (round-kept .1) _ n (r .entries j (k .counted) .inside) (k .holds))
-
-  -- the best is the old one, and no find is cheaper; or it is the find of this turn
-  record Stays : Type 0 where
-    best : s₁ .«best_solution» ≡ s .«best_solution»
-    bounds : b₁ ≡ b
-    finds : (n : ℕ) → u .find ≡ At n → Under b (solutionCost d ns n)
-
-  record Improves : Type 0 where
-    n : ℕ
-    find : u .find ≡ At n
-    best : s₁ .«best_solution» ≡ Best i n
-    holds : hold d ns (e .solution) (u .find) ≡ At n
-    under : (k : ℕ) → Under b k → solutionCost d ns n ≤ k
-
-  stays : s₁ .«best_solution» ≡ s .«best_solution» → ((n : ℕ) → u .find ≡ At n → Under b (solutionCost d ns n)) → Stays
-  stays z f = record { best = z; bounds = ap (boundOf d ts₁ s₁) z ∙ old-bound (s .«best_solution») (r .best); finds = f }
-
-  best-cases : Stays ⊎ Improves
-  best-cases = go (u .find) refl
-    where
-      one : (n k : ℕ) → u .find ≡ At n → u .find ≡ At k → n ≡ k
-      one n k y z = cc
-
-      at-find : (f : Solution) → u .find ≡ f → s₁ .«best_solution» ≡ bestAfter d ns b (e .solution) (s .«best_solution») i f
-      at-find f z = ap (bestAfter d ns b (e .solution) (s .«best_solution») i) z
-
-      hold-find : (f : Solution) → u .find ≡ f → hold d ns (e .solution) (u .find) ≡ hold d ns (e .solution) f
-      hold-find f z = ap (hold d ns (e .solution)) z
-
-      tests : (n : ℕ) → u .find ≡ At n → (p : Bool) → dearer d ns n (e .solution) ≡ p → (q : Bool) → cheaper (solutionCost d ns n) b ≡ q → Stays ⊎ Improves
-      tests n z true p q y =
-          let m = dearer-held d ns n (e .solution) p in
-          inl (stays (at-find (At n) z ∙ ap (λ (t : Bool). bestBy t (cheaper (solutionCost d ns n) b) (s .«best_solution») i n) p)
-          (λ k w. subst (λ (x : ℕ). Under b (solutionCost d ns x)) (one n k z w) (under-le b _ _ (m .2) (rw (held-cost (m .0) (m .1)) (ke .low (m .0) (m .1))))))
-      tests n z false p false y =
-          inl (stays (at-find (At n) z ∙ ap (λ (t : Bool). bestBy t (cheaper (solutionCost d ns n) b) (s .«best_solution») i n) p ∙ ap (λ (t : Bool). bestIf t (s .«best_solution») i n) y)
-          (λ k w. subst (λ (x : ℕ). Under b (solutionCost d ns x)) (one n k z w) (not-cheaper _ b y)))
-      tests n z false p true y =
-          inr (record {
-            n = n;
-            find = z;
-            best = at-find (At n) z ∙ ap (λ (t : Bool). bestBy t (cheaper (solutionCost d ns n) b) (s .«best_solution») i n) p ∙ ap (λ (t : Bool). bestIf t (s .«best_solution») i n) y;
-            holds = hold-find (At n) z ∙ ap (λ (t : Bool). holdIf t (e .solution) n) p;
-            under = is-cheaper _ b y;
-          })
-
-      go : (f : Solution) → u .find ≡ f → Stays ⊎ Improves
-      go Unsolved z = inl (stays (at-find Unsolved z) (λ n y. absurd (unsolved-at n (sym z ∙ y))))
-      go (At n) z = tests n z (dearer d ns n (e .solution)) refl (cheaper (solutionCost d ns n) b) refl
-
-  improved-bound : (x : Improves) → b₁ ≡ Bound (solutionCost d ns (x .n))
-  improved-bound x =
-      ap (boundOf d ts₁ s₁) (x .best) ∙ ap (λ (y : ℕ). Bound (solutionCost d (tree ts₁ y .nodes) (x .n))) (round-slot i) ∙ ap (λ (t : Tree). Bound (solutionCost d (t .nodes) (x .n))) at
-
   pub round-lower : (k : ℕ) → Under b k → Under b₁ k
-  round-lower k a = elim best-cases [ inl x ↦ rw (x .bounds) a | inr x ↦ subst (λ (y : CostBound). Under y k) (sym (improved-bound x)) (x .under k a) ]
+  round-lower = holding.lower d acc ts s ok holds-before i hi
 
-  find-low : (n : ℕ) → u .find ≡ At n → Under b₁ (solutionCost d ns n)
-  find-low n z = elim best-cases [
-    | inl x ↦ rw (x .bounds) (x .finds n z)
-    | inr x ↦ subst (λ (y : CostBound). Under y (solutionCost d ns n)) (sym (improved-bound x)) (let q : x .n ≡ n = one (x .find) z in rw q (omega arith))
+  known-now : (j : ℕ) → j < s .«tree_count» → Known d gs (tree ts₁ ((entry s₁ j) .tree)) ((entry s₁ j) .«last_known_closed_len») ((entry s₁ j) .solution)
+  known-now j h = elim (ℕ-discrete j i) [
+    | yes z ↦ rw (z, holding.entry-i d acc ts s ok holds-before i hi)
+        (subst (λ (t : Tree). Known d gs t (entryAfter d e u .«last_known_closed_len») (hold d ns (e .solution) (u .find))) (sym at) (T .known))
+    | no z ↦
+        let k = r .entries j h in
+        rw (holding.entry-j d acc ts s ok holds-before i hi j z) (known-later gs _ _ _ _ (ok .each _ (k .inside)) (round-kept .1 .each _ (k .inside)) (k .known))
   ]
-    where
-      one : {a c : ℕ} → u .find ≡ At a → u .find ≡ At c → a ≡ c
-      one y w = cc
-
-  low-now : (n : ℕ) → hold d ns (e .solution) (u .find) ≡ At n → Under b₁ (solutionCost d ns n)
-  low-now n z = elim (hold-from d ns (e .solution) (u .find) n z) [ inl y ↦ round-lower _ (rw (held-cost n y) (ke .low n y)) | inr y ↦ find-low n y ]
-
-  entry-ok : EntryOk O d gs ts₁ b₁ (entryAfter d e u)
-  entry-ok =
-      record {
-        own = ke .own;
-        inside = omega (arith, ke .inside, length-set ts (e .tree) (u .tree));
-        known = subst (λ (t : Tree). Known d gs t (entryAfter d e u .«last_known_closed_len») (hold d ns (e .solution) (u .find))) (sym at) (T .known);
-        low = λ n z. subst (λ (t : Tree). Under b₁ (solutionCost d (t .nodes) n)) (sym at) (low-now n z);
-      }
 
   entries-ok : (j : ℕ) → j < s .«tree_count» → EntryOk O d gs ts₁ b₁ (entry s₁ j)
-  entries-ok j h = elim (ℕ-discrete j i) [
-    | yes z ↦ rw (z, entry-i) entry-ok
-    | no z ↦ rw (entry-j j z) (entry-later O d gs ts ts₁ ok (round-kept .1) b b₁ round-lower (entry s j) (r .entries j h))
-  ]
-
-  -- the entry of the best as it was still holds a solution of its cost
-  best-kept : (j n : ℕ) → b₁ ≡ b → b ≡ Bound (solutionCost d (tree ts ((entry s j) .tree) .nodes) n) → BestOk d gs ts s j n → BestOk d gs ts₁ s₁ j n
-  best-kept j n same is k = elim (ℕ-discrete j i) [ yes z ↦ here z | no z ↦ there z ]
-    where
-      inside : (entry s j) .tree < length ts
-      inside = r .entries j (k .counted) .inside
-
-      holds : Holds gs (tree ts₁ ((entry s₁ j) .tree)) n
-      holds = rw (round-slot j) (holds-later gs (tree ts ((entry s j) .tree)) (tree ts₁ ((entry s j) .tree)) n (ok .each _ inside) (round-kept .1 .each _ inside) (k .holds))
-
-      now : (m : ℕ) → Holds gs (tree ts ((entry s j) .tree)) m → solutionCost d (tree ts₁ ((entry s j) .tree) .nodes) m ≡ solutionCost d (tree ts ((entry s j) .tree) .nodes) m
-      now m x = ap (λ (y : Node). solutionCostOf d y) (same-node O d gs ts ts₁ ok (round-kept .1) _ m inside x)
-
-      there : j ≢ i → BestOk d gs ts₁ s₁ j n
-      there z =
-          record {
-            counted = k .counted;
-            holds = holds;
-            h = k .h;
-            held = ap (λ (x : TreeMemory). x .solution) (entry-j j z) ∙ k .held;
-            level = rw (round-slot j) (now (k .h) (r .entries j (k .counted) .known .holds (k .h) (k .held)) ∙ k .level ∙ sym (now n (k .holds)));
-          }
-
-      here : j ≡ i → BestOk d gs ts₁ s₁ j n
-      here z =
-          let cost-n : solutionCost d ns n ≡ solutionCost d (tree ts ((entry s j) .tree) .nodes) n = ap (λ (t : Tree). solutionCost d (t .nodes) n) (sym at) ∙ ap (λ (y : ℕ). solutionCost d (tree ts₁ ((entry s y) .tree) .nodes) n) (sym z) ∙ now n (k .holds) in
-          let held′ : e .solution ≡ At (k .h) = ap (λ (y : ℕ). (entry s y) .solution) (sym z) ∙ k .held in
-          let cost-h : solutionCost d ns (k .h) ≡ solutionCost d ns n = held-cost (k .h) held′ ∙ ap (λ (y : ℕ). solutionCost d (tree ts ((entry s y) .tree) .nodes) (k .h)) (sym z) ∙ k .level ∙ sym cost-n in
-          let up : Upto d ns (e .solution) (solutionCost d ns n) = subst (λ (o : Solution). Upto d ns o (solutionCost d ns n)) (sym held′) (omega (arith, cost-h)) in
-          let m = held-level d ns (hold d ns (e .solution) (u .find)) (solutionCost d ns n) (hold-held d ns (e .solution) (u .find) _ up)
-          (λ m w. subst (λ (y : CostBound). Under y (solutionCost d ns m)) (same ∙ is ∙ ap Bound (sym cost-n)) (low-now m w)) in
-          record {
-            counted = k .counted;
-            holds = holds;
-            h = m .0;
-            held = ap (λ (y : ℕ). (entry s₁ y) .solution) z ∙ ap (λ (x : TreeMemory). x .solution) entry-i ∙ m .1;
-            level = subst (λ (t : Tree). solutionCost d (t .nodes) (m .0) ≡ solutionCost d (t .nodes) n) (sym at ∙ ap (λ (y : ℕ). tree ts₁ y) (ap (λ (y : ℕ). (entry s y) .tree) (sym z) ∙ sym (round-slot j))) (m .2);
-          }
+  entries-ok j h =
+      let k = holds-after .entries j h in
+      record { own = rw (round-slot j) (r .entries j h .own); inside = k .inside; known = known-now j h; low = k .low }
 
   best-ok : BestsOk d gs ts₁ s₁ (s₁ .«best_solution»)
-  best-ok = elim best-cases [
-    | inl x ↦ subst (BestsOk d gs ts₁ s₁) (sym (x .best)) (old (x .bounds) (s .«best_solution») refl (r .best))
+  best-ok = elim (holding.best-cases d acc ts s ok holds-before i hi) [
+    | inl x ↦ subst (BestsOk d gs ts₁ s₁) (sym (x .best)) (old x (s .«best_solution») refl (r .best))
     | inr x ↦ subst (BestsOk d gs ts₁ s₁) (sym (x .best)) (new x)
   ]
     where
-      old : b₁ ≡ b → (x : BestSolution) → s .«best_solution» ≡ x → BestsOk d gs ts s x → BestsOk d gs ts₁ s₁ x
-      old same NoBest z k = tt
-      old same (Best j n) z k = best-kept j n same (ap (boundOf d ts s) z) k
+      -- the entry of the best as it was still holds a solution of its cost
+      old : holding.Stays d acc ts s ok holds-before i hi → (x : BestSolution) → s .«best_solution» ≡ x → BestsOk d gs ts s x → BestsOk d gs ts₁ s₁ x
+      old y NoBest z k = tt
+      old y (Best j n) z k =
+          let p = holds-after .best j n (y .best ∙ z) in
+          let l = holding.level-kept d acc ts s ok holds-before i hi j _ (k .counted) (ap (boundOf d ts s) z) (y .bounds) (record { h = k .h; held = k .held; level = k .level }) in
+          record { counted = p .0; holds = p .1; h = l .h; held = l .held; level = l .level ∙ sym (holding.cost-stays d acc ts s ok holds-before i hi j n (k .counted) (k .holds)) }
 
-      new : (x : Improves) → BestOk d gs ts₁ s₁ i (x .n)
+      new : (x : holding.Improves d acc ts s ok holds-before i hi) → BestOk d gs ts₁ s₁ i (x .n)
       new x =
-          record {
-            counted = hi;
-            holds = subst (λ (t : Tree). Holds gs t (x .n)) (sym at ∙ ap (tree ts₁) (sym (round-slot i))) (T .finds (x .n) (x .find));
-            h = x .n;
-            held = ap (λ (y : TreeMemory). y .solution) entry-i ∙ x .holds;
-            level = refl;
-          }
+          let p = holds-after .best i (x .n) (x .best) in
+          let l = holding.level-new d acc ts s ok holds-before i hi x in
+          record { counted = p .0; holds = p .1; h = l .h; held = l .held; level = l .level }
 
   pub round-ready : Ready O d ts₁ s₁
   round-ready =
@@ -359,7 +226,7 @@ module _ (O : ℕ → Type 0) (d : Domain) (acc : Accepted (d .graph)) (ts : Lis
   upto-low (At n) k f a = under-le b₁ _ k a (f n refl)
 
   pub round-covers : u .more ≡ false → Covered d gs ts b₁ (e .tree)
-  round-covers z v ls p l = elim (T .done z v ls p l) [ inl a ↦ upto-low _ _ low-now a | inr a ↦ round-lower _ a ]
+  round-covers z v ls p l = elim (T .done z v ls p l) [ inl a ↦ upto-low _ _ (holding.low-now d acc ts s ok holds-before i hi) a | inr a ↦ round-lower _ a ]
 
   pub round-gave : u .more ≡ true → Gave ts ts₁ (e .tree)
   round-gave z = record { inside = ke .inside; gave = rw at (omega (arith, T .tickets, T .moves z)) }

@@ -3,17 +3,11 @@
 use mathlib.Core.Path.{_≡_, refl, sym, ap, _∙_, subst}
 use mathlib.Core.Logic.{_⊎_, inl, inr}
 use mathlib.Core.Bool.{Bool, true, false, true≢false}
-use mathlib.Core.List.{_∷_}
 use mathlib.Core.Option.{Option, none, some}
 use Prim.Native.Nat.{ℕ, zero, suc, _+_, _<_}
 use native.Mathlib.Omega.{arith}
-use Rattle.model.specs.declared.Refusal.{Refusal}
-use Rattle.model.specs.declared.SearchStatus.{SearchStatus}
-use Rattle.model.specs.declared.SearchStatus.the-variants.{Incomplete}
-use Rattle.model.specs.declared.StepAnswer.{StepAnswer}
-use Rattle.model.specs.declared.StepAnswer.the-variants as stepping
 use Rattle.model.specs.declared.Search.{Search}
-use Rattle.model.specs.Answers.{Reply, answered, refused, Status, waiting, solved, noPath, stepReply}
+use Rattle.model.specs.Answers.{Reply, answered, refused, Status, waiting, solved, noPath}
 use Rattle.model.specs.Calls.{Cache, firstFault, stepFaults, AfterStep, stepIf, stepBy, step}
 use Rattle.model.specs.Solve.{isWaiting, AfterSteps, lastReply, stepsFrom, solve}
 use Rattle.model.proofs.Replies.{answered-refused}
@@ -105,23 +99,15 @@ solve-looks c s e =
     λ i. record { cache = sym (k .cache) i; search = sym (k .search) i; reply = reply; waits = 0; tickets = none i } in
     solve-none c s ∙ same ∙ sym (steps-end c s 0 0 0 e)
 
--- ---- what is told of the step that ends so many, by its answer
+-- ---- what is told of the step that ends so many, by its reply
 
-pub told-first : (w : ℕ) (a : StepAnswer) → w ≡ 0 → stepReply a ≡ lastReply w (stepReply a)
-told-first zero a e = refl
-told-first (suc w) a e = absurd (omega arith)
+pub told-answered : (w : ℕ) (x : Status) → lastReply w (answered x) ≡ answered x
+told-answered zero x = refl
+told-answered (suc w) x = refl
 
-pub told-status : (w : ℕ) (a : StepAnswer) (x : SearchStatus) → a ≡ stepping.Status x → stepReply (stepping.Status x) ≡ lastReply w (stepReply a)
-told-status w a x e = sym (ap (λ (y : StepAnswer). lastReply w (stepReply y)) e ∙ go w)
-  where
-    go : (k : ℕ) → lastReply k (stepReply (stepping.Status x)) ≡ stepReply (stepping.Status x)
-    go zero = refl
-    go (suc k) = refl
-
-pub told-waiting : (w : ℕ) (a : StepAnswer) (f : Refusal) (line : ℕ) → a ≡ stepping.Refused f line → (w ≡ 0 → ⊥)
-    → stepReply (stepping.Status Incomplete) ≡ lastReply w (stepReply a)
-told-waiting zero a f line e later = absurd (later refl)
-told-waiting (suc w) a f line e later = sym (ap (λ (y : StepAnswer). lastReply (suc w) (stepReply y)) e)
+pub told-refused : (w n line : ℕ) → (w ≡ 0 → ⊥) → lastReply w (refused n line) ≡ answered waiting
+told-refused zero n line later = absurd (later refl)
+told-refused (suc w) n line later = refl
 
 -- ---- the same, by what is told
 

@@ -32,10 +32,10 @@ use Rattle.model.proofs.Valid.{at-every, entries-length, entries-at, ev
 
 -- ---- the parts of a record
 
-closes-goal : (gs : List ℕ) (t : Tree) (n : ℕ) → Holds gs t n → ClosesGoal gs t n
+pub closes-goal : (gs : List ℕ) (t : Tree) (n : ℕ) → Holds gs t n → ClosesGoal gs t n
 closes-goal gs t n h = record { wanted = mem-listed _ gs (h .sought); closes = h .closes }
 
-goal-closes : (gs : List ℕ) (t : Tree) (n : ℕ) → ClosesGoal gs t n → Holds gs t n
+pub goal-closes : (gs : List ℕ) (t : Tree) (n : ℕ) → ClosesGoal gs t n → Holds gs t n
 goal-closes gs t n h = record { sought = listed-mem _ gs (h .wanted); closes = h .closes }
 
 at-below : (n : ℕ) (xs : List ℕ) → ((v : ℕ) → List·Memᴰ v xs → v < n) → allBelow n xs ≡ true

@@ -158,12 +158,12 @@ known-later gs t t′ known held ok l k =
           rw (l .keeps i (ok .closer x i z′ .0)) (upto-later gs t t′ held _ ok l (k .holds) (k .knows (e ∙ ap Len same) x i m z′));
     }
 
+never-len : (n : ℕ) → Never ≡ Len n → ⊥
+never-len n e = let z : _≡_ {A = ℕ} 0 1 = cc in omega arith
+
 -- what a new entry knows
 pub first-known : (d : Domain) (gs : List ℕ) (t : Tree) → Known d gs t Never Unsolved
 first-known d gs t = record { past = λ n e. absurd (never-len n e); holds = λ n e. absurd (unsolved-at n e); knows = λ e. absurd (never-len _ e) }
-  where
-    never-len : (n : ℕ) → Never ≡ Len n → ⊥
-    never-len n e = let z : _≡_ {A = ℕ} 0 1 = cc in omega arith
 
 -- ---- the lookup
 
@@ -201,6 +201,40 @@ lookup-some d t gs known n e = go (remembers known (closedCount (t .closed))) e
           | inr z ↦ record { v = z .0; sought = z .1; closes = z .2; least = λ x i p y. subst (λ (o : Solution). Upto d (t .nodes) o (solutionCost d (t .nodes) i)) q (r .each x i p y) }
         ]
 
+-- ---- a find is a node that closed a goal, whatever count is remembered
+
+looked-holds : (d : Domain) (gs : List ℕ) (t : Tree) → Sound d t → (n : ℕ) → Looked d t gs n → Holds gs t n
+looked-holds d gs t ok n l =
+    let e : (node (t .nodes) n) .vertex ≡ l .v = ok .closer (l .v) n (l .closes) .1 in
+    record { sought = rw e (l .sought); closes = rw e (l .closes) }
+
+grown-finds : (d : Domain) (gs : List ℕ) (t : Tree) (g : Growth) → Grew d gs t g → (n : ℕ) → findOf (g .going) ≡ At n → Holds gs (g .tree) n
+grown-finds d gs t g r n = go (g .going) (r .gone)
+  where
+    go : (x : Going) → Gone gs (g .tree .nodes) (t .closed) (g .tree .closed) x → findOf x ≡ At n → Holds gs (g .tree) n
+    go on f z = absurd (unsolved-at n z)
+    go (found k) f z = let q : k ≡ n = cc in subst (Holds gs (g .tree)) q (record { sought = f .goal; closes = f .closes })
+    go over f z = absurd (unsolved-at n z)
+
+pub turn-finds : (d : Domain) → Accepted (d .graph) → (gs : List ℕ) (b : CostBound) (t : Tree) (known : KnownLen) → Sound d t → (n : ℕ) → turn d gs b t known .find ≡ At n
+    → Holds gs (turn d gs b t known .tree) n
+unfolding turn
+turn-finds d acc gs b t known ok n = go (lookup d t gs known) refl
+  where
+    go : (o : Solution) → lookup d t gs known ≡ o → turnBy d gs b t o .find ≡ At n → Holds gs (turnBy d gs b t o .tree) n
+    go Unsolved e z = grown-finds d gs t _ (growing.grown d acc gs b t ok 10) n z
+    go (At k) e z = let q : k ≡ n = cc in subst (Holds gs t) q (looked-holds d gs t ok k (lookup-some d t gs known k e))
+
+-- and the count to remember is that of the tree left
+pub turn-counts : (d : Domain) (gs : List ℕ) (b : CostBound) (t : Tree) (known : KnownLen) (n : ℕ) → turn d gs b t known .known ≡ Len n
+    → n ≡ closedCount (turn d gs b t known .tree .closed)
+unfolding turn
+turn-counts d gs b t known n = go (lookup d t gs known)
+  where
+    go : (o : Solution) → turnBy d gs b t o .known ≡ Len n → n ≡ closedCount (turnBy d gs b t o .tree .closed)
+    go Unsolved e = cc
+    go (At k) e = absurd (never-len n e)
+
 -- ---- the turn
 
 -- there is a bound, and it is k or less
@@ -217,7 +251,6 @@ pub record Turned (d : Domain) (gs : List ℕ) (b : CostBound) (t : Tree) (prior
   pub sound : Sound d (u .tree)
   pub later : Later t (u .tree)
   pub known : Known d gs (u .tree) (knownAfter prior (u .known)) (hold d (u .tree .nodes) held (u .find))
-  pub finds : (n : ℕ) → u .find ≡ At n → Holds gs (u .tree) n
   pub done : u .more ≡ false → (v : ℕ) (ls : List ℕ) → mem v gs ≡ true → Leads (d .graph) (t .start) ls v
       → Upto d (u .tree .nodes) (hold d (u .tree .nodes) held (u .find)) (pathWorth d (t .start) ls v) ⊎ Under b (pathWorth d (t .start) ls v)
   pub tickets : length (u .tree .nodes) + length (t .waiting) ≡ u .tickets + (length (t .nodes) + length (u .tree .waiting))
@@ -241,11 +274,6 @@ queue-under ns (Bound v) k (x ∷ xs) u j m h =
     le-trans (ltb-false _ _ u) (le-trans le h)
 
 module _ (d : Domain) (acc : Accepted (d .graph)) (gs : List ℕ) (b : CostBound) (t : Tree) (ok : Sound d t) (known : KnownLen) (held : Solution) (kn : Known d gs t known held) where
-  looked-holds : (n : ℕ) → Looked d t gs n → Holds gs t n
-  looked-holds n l =
-      let e : (node (t .nodes) n) .vertex ≡ l .v = ok .closer (l .v) n (l .closes) .1 in
-      record { sought = rw e (l .sought); closes = rw e (l .closes) }
-
   -- what waits is worth no less than what is closed
   looked-done : (n : ℕ) → Looked d t gs n → (v : ℕ) (ls : List ℕ) → mem v gs ≡ true → Front t v (pathWeight d (t .start) ls) → solutionCost d (t .nodes) n ≤ pathWorth d (t .start) ls v
   looked-done n l v ls e (done i z h) = le-trans (l .least v i e z) (closed-worth d t ok (t .start) v i ls z h)
@@ -259,10 +287,9 @@ module _ (d : Domain) (acc : Accepted (d .graph)) (gs : List ℕ) (b : CostBound
         later = later-refl t;
         known = record {
           past = kn .past;
-          holds = λ k e. elim (hold-from d (t .nodes) held (At n) k e) [ inl z ↦ kn .holds k z | inr z ↦ let q : n ≡ k = cc in subst (Holds gs t) q (looked-holds n l) ];
+          holds = λ k e. elim (hold-from d (t .nodes) held (At n) k e) [ inl z ↦ kn .holds k z | inr z ↦ let q : n ≡ k = cc in subst (Holds gs t) q (looked-holds d gs t ok n l) ];
           knows = λ e x i m z. hold-held d (t .nodes) held (At n) _ (kn .knows e x i m z);
         };
-        finds = λ k z. let q : n ≡ k = cc in subst (Holds gs t) q (looked-holds n l);
         done = λ e v ls p r. inl (upto-le d (t .nodes) (hold d (t .nodes) held (At n)) _ _ (looked-done n l v ls p (front-start d t ok v ls r)) (hold-find d (t .nodes) held n));
         tickets = omega arith;
         moves = λ e. absurd (true≢false (sym e));
@@ -273,14 +300,6 @@ module _ (d : Domain) (acc : Accepted (d .graph)) (gs : List ℕ) (b : CostBound
   known-old e x i m z = elim (lookup-none d t gs known e) [ inl h ↦ kn .knows h x i m z | inr h ↦ absurd (h x i m z) ]
 
   module _ (e : lookup d t gs known ≡ Unsolved) (g : Growth) (r : Grew d gs t g) (mv : Moved g) where
-    grown-finds : (n : ℕ) → findOf (g .going) ≡ At n → Holds gs (g .tree) n
-    grown-finds n = go (g .going) (r .gone)
-      where
-        go : (x : Going) → Gone gs (g .tree .nodes) (t .closed) (g .tree .closed) x → findOf x ≡ At n → Holds gs (g .tree) n
-        go on f z = absurd (unsolved-at n z)
-        go (found k) f z = let q : k ≡ n = cc in subst (Holds gs (g .tree)) q (record { sought = f .goal; closes = f .closes })
-        go over f z = absurd (unsolved-at n z)
-
     old-knows : (x i : ℕ) → mem x gs ≡ true → closedAt (t .closed) x ≡ suc i → Upto d (g .tree .nodes) held (solutionCost d (g .tree .nodes) i)
     old-knows x i m z = rw (r .later .keeps i (ok .closer x i z .0)) (upto-later gs t (g .tree) held _ ok (r .later) (kn .holds) (known-old e x i m z))
 
@@ -316,10 +335,9 @@ module _ (d : Domain) (acc : Accepted (d .graph)) (gs : List ℕ) (b : CostBound
           later = r .later;
           known = record {
             past = λ n z. (let q : closedCount (g .tree .closed) ≡ n = cc in omega arith);
-            holds = λ k z. elim (hold-from d (g .tree .nodes) held (findOf (g .going)) k z) [ inl y ↦ holds-later gs t (g .tree) k ok (r .later) (kn .holds k y) | inr y ↦ grown-finds k y ];
+            holds = λ k z. elim (hold-from d (g .tree .nodes) held (findOf (g .going)) k z) [ inl y ↦ holds-later gs t (g .tree) k ok (r .later) (kn .holds k y) | inr y ↦ grown-finds d gs t g r k y ];
             knows = λ _. grown-knows;
           };
-          finds = grown-finds;
           done = λ u v ls p l. grown-done u v ls p (grown-front v ls l);
           tickets = r .tickets;
           moves = grown-moves;

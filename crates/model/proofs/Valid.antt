@@ -165,7 +165,7 @@ module _ (d : Domain) (ts : List Tree) where
 
 -- ---- a search's own record
 
-count-le : (cl : List ℕ) → closedCount cl ≤ length cl
+pub count-le : (cl : List ℕ) → closedCount cl ≤ length cl
 unfolding closedCount
 count-le [] = omega arith
 count-le (x ∷ xs) = go (count-le xs) (eqb x 0)

@@ -1,7 +1,7 @@
 -- Refusal 8, "strange search", clause by clause: the tests that a record passes exactly if it is not refused so.
 -- Assumes nothing.
 use mathlib.Core.Bool.{Bool, true, false, not, _&&_, _||_}
-use mathlib.Core.List.{List, [], _∷_}
+use mathlib.Core.List.{List, [], _∷_, _++_}
 use Prim.Native.Nat.{ℕ, suc}
 use lib.Dec.{eqb, leb, ltb}
 use lib.ListN.{length}
@@ -89,15 +89,22 @@ abbrev pub bestHeld : Search → BestSolution → Bool
 bestHeld s NoBest = true
 bestHeld s (Best i n) = isHeld ((entry s i) .solution)
 
-abbrev pub validTests : Domain → List Tree → Search → List Bool
-validTests d ts s =
+-- every clause but that one
+abbrev pub almostTests : Domain → List Tree → Search → List Bool
+almostTests d ts s =
     allb (listTests s)
     ∷ allBelow (vertexCount (d .graph)) (goals s)
     ∷ everyb (λ e. allb (entryTests d ts (goals s) e)) (entries s)
     ∷ bestCloses ts s (s .«best_solution»)
     ∷ sameCost (bound d ts s) (leastHeld d ts (entries s))
-    ∷ (not (s .exhausted) || bestHeld s (s .«best_solution»))
     ∷ []
+
+unfoldable pub almost : Domain → List Tree → Search → Bool
+unfolding everyb closesGoal leastHeld
+almost d ts s = allb (almostTests d ts s)
+
+abbrev pub validTests : Domain → List Tree → Search → List Bool
+validTests d ts s = almostTests d ts s ++ ((not (s .exhausted) || bestHeld s (s .«best_solution»)) ∷ [])
 
 unfoldable pub valid : Domain → List Tree → Search → Bool
 unfolding everyb closesGoal leastHeld

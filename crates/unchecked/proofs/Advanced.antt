@@ -7,7 +7,9 @@ use mathlib.Core.Option.{none}
 use Prim.Native.Nat.{ℕ}
 use Rattle.model.specs.declared.Solution.{Solution}
 use Rattle.model.specs.declared.Solution.the-variants.{Unsolved, At}
+use Rattle.model.specs.declared.SearchStatus.the-variants.{Incomplete}
 use Rattle.model.specs.declared.StepAnswer.{StepAnswer}
+use Rattle.model.specs.declared.StepAnswer.the-variants as stepping
 use Rattle.model.specs.declared.Search.{Search}
 use Rattle.model.specs.Answers.{Reply, answered, refused, Status, waiting, solved, noPath, stepReply}
 use Rattle.model.specs.Valid.{valid}
@@ -18,9 +20,8 @@ use Rattle.model.proofs.Faults.{step-if}
 use Rattle.model.proofs.Solve.{step-rests}
 use Rattle.layout.specs.Read.{readCache}
 use Rattle.sound.specs.Facts.{SoundWords}
-use Rattle.memory.proofs.Fits.{valid-fits}
 use Rattle.entry_turns.specs.declared.Turned.{Turned}
-use Rattle.entry_turns.specs.Turn.{CanStep, Steps}
+use Rattle.entry_turns.specs.Turn.{Steps}
 use Rattle.unchecked.specs.Step.{Leaves, Advances}
 
 -- words that stay
@@ -53,6 +54,10 @@ module _ (c : Cache) (s : Search) where
   never-waits Unsolved t = refl
   never-waits (At n) t = refl
 
+  pub final-answers : isWaiting (answered (finalStatus (c .trees) s)) ≡ false
+  unfolding finalStatus
+  final-answers = never-waits (shown s) (shownTree (c .trees) s)
+
   pub waits-valid : isWaiting (step c s .reply) ≡ true → valid (c .domain) (c .trees) s ≡ true
   waits-valid w = go (valid (c .domain) (c .trees) s) refl
     where
@@ -60,16 +65,12 @@ module _ (c : Cache) (s : Search) where
       go true e = refl
       go false e = absurd (true≢false (sym w ∙ ap isWaiting (not-valid e)))
 
-  waits-unfinished : isWaiting (step c s .reply) ≡ true → s .exhausted ≡ false
-  unfolding finalStatus
+  pub waits-unfinished : isWaiting (step c s .reply) ≡ true → s .exhausted ≡ false
   waits-unfinished w = go (s .exhausted) refl
     where
       go : (x : Bool) → s .exhausted ≡ x → x ≡ false
-      go true e = absurd (true≢false (sym w ∙ ap isWaiting (finished (waits-valid w) e) ∙ never-waits (shown s) (shownTree (c .trees) s)))
+      go true e = absurd (true≢false (sym w ∙ ap isWaiting (finished (waits-valid w) e) ∙ final-answers))
       go false e = refl
-
-  pub waits-walks : isWaiting (step c s .reply) ≡ true → step c s ≡ stepIf false c s
-  waits-walks w = goes (waits-valid w) (waits-unfinished w)
 
 module _ (ws : List ℕ) (s : Search) where
   abbrev c′ : Cache
@@ -89,18 +90,16 @@ module _ (ws : List ℕ) (s : Search) where
         words = leaves-same (step c′ s .reply) ws s;
       }
 
-  pub walked : (a : StepAnswer) → stepReply a ≡ step c′ s .reply → isWaiting (stepReply a) ≡ true → (t : Turned) (left : List ℕ) → Steps ws s t left
-      → Advances ws s (record { answer = a; tickets = t .tickets; search = t .search }) left
-  walked a e w t left h =
-      let goes = waits-walks c′ s (ap isWaiting (sym e) ∙ w) in
+  -- one of a valid record that is not finished is the walk over its entries
+  pub walked : valid (c′ .domain) (c′ .trees) s ≡ true → s .exhausted ≡ false → {t : Turned} {left : List ℕ} → Steps ws s t left
+      → Advances ws s (record { answer = stepping.Status Incomplete; tickets = t .tickets; search = t .search }) left
+  walked fine unfinished {t} {left} h =
+      let is = goes c′ s fine unfinished in
       record {
-        answer = e;
-        tickets = h .tickets ∙ sym (ap (λ (x : AfterStep). x .tickets) goes);
-        search = h .search ∙ sym (ap (λ (x : AfterStep). x .search) goes);
-        cache = h .cache ∙ sym (ap (λ (x : AfterStep). x .cache) goes);
+        answer = sym (waits c′ s fine unfinished);
+        tickets = h .tickets ∙ sym (ap (λ (x : AfterStep). x .tickets) is);
+        search = h .search ∙ sym (ap (λ (x : AfterStep). x .search) is);
+        cache = h .cache ∙ sym (ap (λ (x : AfterStep). x .cache) is);
         sound = h .sound;
-        words = subst (λ (r : Reply Status). Leaves r ws s left) (sym (ap (λ (x : AfterStep). x .reply) goes)) (h .apart);
+        words = subst (λ (r : Reply Status). Leaves r ws s left) (sym (waits c′ s fine unfinished)) (h .apart);
       }
-
-  pub can-step : SoundWords ws → isWaiting (step c′ s .reply) ≡ true → CanStep ws s
-  can-step ok w = record { sound = ok; fits = valid-fits ws s ok (waits-valid c′ s w) }

@@ -1,10 +1,11 @@
--- What a step of the model returns: at most ten tickets for each of 64 entries, and a record whose entries are in the slots of the one given.
+-- What a step of the model returns: at most so many tickets, and a record whose entries are in the slots of the one given.
 -- Assumes nothing.
 use mathlib.Core.Path.{_≡_, refl}
 use mathlib.Core.Bool.{Bool, true, false, not}
 use mathlib.Core.List.{[], _∷_}
 use Prim.Native.Nat.{ℕ, _≤_}
 use native.Mathlib.Omega.{arith}
+use Rattle.model.specs.Limits.{stepTickets}
 use Rattle.model.specs.declared.Search.{Search}
 use Rattle.model.specs.Search.{entry, Walk, walk, withExhausted}
 use Rattle.model.specs.Valid.{valid}
@@ -18,16 +19,16 @@ module _ (c : Cache) (s : Search) where
   abbrev from : Walk
   from = record { trees = c .trees; search = withExhausted s true; tickets = 0 }
 
-  stepIf-few : (x : Bool) → s .«tree_count» ≤ 64 → stepIf x c s .tickets ≤ 640
+  stepIf-few : (x : Bool) → s .«tree_count» ≤ 64 → stepIf x c s .tickets ≤ stepTickets
   unfolding walk
   stepIf-few true h = omega arith
   stepIf-few false h = omega (arith, rounds-few (c .domain) (s .«tree_count») 0 from)
 
-  pub step-few : step c s .tickets ≤ 640
+  pub step-few : step c s .tickets ≤ stepTickets
   unfolding step
   step-few = go (valid (c .domain) (c .trees) s) refl
     where
-      go : (v : Bool) → valid (c .domain) (c .trees) s ≡ v → stepBy (firstFault (record { number = 8; given = not v } ∷ [])) c s .tickets ≤ 640
+      go : (v : Bool) → valid (c .domain) (c .trees) s ≡ v → stepBy (firstFault (record { number = 8; given = not v } ∷ [])) c s .tickets ≤ stepTickets
       go true e = stepIf-few (s .exhausted) (valid-at (c .domain) (c .trees) s e .counts)
       go false e = omega arith
 

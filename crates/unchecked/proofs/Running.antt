@@ -3,27 +3,24 @@
 use mathlib.Core.Path.{_≡_, refl, sym, ap, _∙_, subst}
 use mathlib.Core.Bool.{true, false}
 use mathlib.Core.List.{List, List·Memᴰ}
-use Prim.Native.Nat.{ℕ, _+_, _*_, _≤_}
+use Prim.Native.Nat.{ℕ, _+_, _≤_}
 use native.Mathlib.Omega.{arith}
 use lib.ListN.{length}
 use Rattle.model.specs.declared.SearchStatus.{SearchStatus}
 use Rattle.model.specs.declared.SearchStatus.the-variants.{Incomplete}
-use Rattle.model.specs.declared.StepAnswer.{StepAnswer}
 use Rattle.model.specs.declared.StepAnswer.the-variants as stepping
 use Rattle.model.specs.declared.Search.{Search}
 use Rattle.model.specs.declared.Stepped.{Stepped}
 use Rattle.model.specs.Answers.{answered, status, stepReply}
-use Rattle.model.specs.Graph.{Accepted, Domain}
-use Rattle.model.specs.Tree.{Tree}
+use Rattle.model.specs.Graph.{Accepted}
 use Rattle.model.specs.Search.{walk}
 use Rattle.model.specs.Valid.{valid}
 use Rattle.model.specs.Calls.{Cache, step}
 use Rattle.model.specs.Solve.{isWaiting, maxSteps}
-use Rattle.model.proofs.Solve.{told-status}
+use Rattle.model.proofs.Solve.{told-answered}
 use Rattle.model.proofs.Valid.{own-valid}
 use Rattle.model.proofs.Chain.{State, lefts, state-walk, walk-less}
 use Rattle.layout.specs.Read.{readCache}
-use Rattle.sound.specs.Facts.{SoundWords}
 use Rattle.sound.proofs.Facts.{sound-accepted}
 use Rattle.memory.proofs.Fits.{valid-fits}
 use Rattle.entry_turns.specs.declared.Turned.{Turned}
@@ -31,16 +28,15 @@ use Rattle.entry_turns.specs.Turn.{CanStep, Steps}
 use Rattle.memory.specs.declared.Shown.{Shown}
 use Rattle.memory.specs.declared.Shown.the-variants as shown
 use Rattle.unchecked.specs.Step.{Advances}
-use Rattle.unchecked.specs.Solve.{Waited, at-first, once-more, one-ends, Solves}
+use Rattle.unchecked.specs.Solve.{Waited, at-first, once-more, Solves}
 use Rattle.memory.specs.Standing.{shownIn}
-use Rattle.unchecked.specs.Shown.{CanShow, Shows, statusOf}
+use Rattle.unchecked.specs.Shown.{Shows, statusOf}
 use Rattle.unchecked.specs.Retrace.{retraceShown}
 use Rattle.unchecked.specs.Run.{ticketLimit, JustOpened, RunsToEnd}
-use Rattle.unchecked.proofs.Records.{step-few}
-use Rattle.unchecked.proofs.ShownNode.{can-show, shows, status-is}
-use Rattle.unchecked.proofs.Advanced.{finished, waits, rests, walked}
-use Rattle.unchecked.proofs.Waits.{Stays, waited-stays}
-use Rattle.unchecked.proofs.Solved.{made-solves}
+use Rattle.unchecked.proofs.ShownNode.{shows, status-is}
+use Rattle.unchecked.proofs.Advanced.{finished, walked}
+use Rattle.unchecked.proofs.Waits.{Stays, waited-stays, waited-few}
+use Rattle.unchecked.proofs.Solved.{ends-here}
 use Rattle.unchecked.proofs.Retraced.{shown-retraced}
 use Rattle.unchecked.proofs.JustOpened.{OwnSearch, own-search}
 
@@ -55,12 +51,11 @@ pub record Running (ws : List ℕ) (s : Search) (words : List ℕ) (next : Searc
   pub state : State (readCache words .domain) (from .vs) (from .gs) (from .mine) (readCache words .trees) next
   pub left : next .exhausted ≡ false → w + leftIn words (from .mine) ≤ ticketLimit
   pub within : w ≤ 1 + ticketLimit
-  pub few : t ≤ 640 * w
 
 pub running-first : {ws : List ℕ} {s : Search} → JustOpened ws s → Running ws s ws s 0 0
 running-first j =
     let o = own-search j in
-    record { from = o; waited = at-first; state = o .state; left = λ e. omega (arith, o .few); within = omega arith; few = omega arith }
+    record { from = o; waited = at-first; state = o .state; left = λ e. omega (arith, o .few); within = omega arith }
 
 module _ {ws : List ℕ} {s : Search} {words : List ℕ} {next : Search} {w t : ℕ} (g : Running ws s words next w t) where
   abbrev c : Cache
@@ -94,14 +89,11 @@ module _ {ws : List ℕ} {s : Search} {words : List ℕ} {next : Search} {w t : 
     abbrev stepped : Stepped
     stepped = record { answer = stepping.Status Incomplete; tickets = r .tickets; search = r .search }
 
-    advances : Advances words next stepped left
-    advances = walked words next (stepping.Status Incomplete) (sym (waits c next fine unfinished)) refl r left p
+    pub running-advances : Advances words next stepped left
+    running-advances = walked words next fine unfinished p
 
     acc : Accepted (c .domain .graph)
     acc = sound-accepted words (stays .sound)
-
-    pub running-few : r .tickets ≤ 640
-    running-few = omega (arith, advances .tickets, step-few c next)
 
     less : r .search .exhausted ≡ false → leftIn left mine + 1 ≤ leftIn words mine
     less e =
@@ -111,12 +103,11 @@ module _ {ws : List ℕ} {s : Search} {words : List ℕ} {next : Search} {w t : 
     pub running-more : Running ws s left (r .search) (w + 1) (t + r .tickets)
     running-more = record {
       from = g .from;
-      waited = once-more stepped (g .waited) advances refl;
+      waited = once-more stepped (g .waited) running-advances refl;
       state = subst (λ (x : Cache). State (x .domain) vs gs mine (x .trees) (r .search)) (sym (p .cache))
           (subst (State (c .domain) vs gs mine (walk (c .domain) (c .trees) next .trees)) (sym (p .search)) (state-walk (c .domain) acc vs gs mine (c .trees) next (g .state)));
       left = λ e. omega (arith, less e, g .left unfinished);
       within = omega (arith, g .left unfinished);
-      few = omega (arith, g .few, running-few);
     }
 
   -- ---- the end
@@ -137,17 +128,13 @@ module _ {ws : List ℕ} {s : Search} {words : List ℕ} {next : Search} {w t : 
       last = ap (λ z. isWaiting (answered z)) e ∙ answers x
 
       solves : Solves ws s maxSteps (record { answer = stepping.Status a; waits = w; tickets = t; search = next }) words
-      solves =
-          let none : t + 0 ≡ t = omega arith in
-          subst (λ (k : ℕ). Solves ws s maxSteps (record { answer = stepping.Status a; waits = w; tickets = k; search = next }) words) none
-          (made-solves ws s (g .from .sound) (one-ends (record { answer = stepping.Status a; tickets = 0; search = next }) (stepping.Status a) (g .within) (g .waited)
-          (rests words next (stays .sound) (stepping.Status a) stands last) last (told-status w (stepping.Status a) a refl)))
+      solves = ends-here ws s (g .from .sound) (g .within) (g .waited) (stepping.Status a) stands last (sym (told-answered w (status a)))
 
       pub running-ends : RunsToEnd ws s (record { answer = stepping.Status a; waits = w; tickets = t; shown = x; search = next }) words
       running-ends = record {
         solves = solves;
         waits = g .within;
-        tickets = g .few;
+        tickets = waited-few (g .waited);
         shows = running-shows;
         answers = ap answered e;
         retraces = λ p. shown-retraced words next p fine done ∙ ap (λ (y : Shown). retraceShown words y p) (sym is);

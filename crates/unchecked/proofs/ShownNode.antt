@@ -7,9 +7,10 @@ use Prim.Native.Nat.{ℕ}
 use Rattle.model.specs.declared.BestSolution.{BestSolution}
 use Rattle.model.specs.declared.BestSolution.the-variants.{NoBest, Best}
 use Rattle.model.specs.declared.Search.{Search}
+use Rattle.model.specs.declared.TreeMemory.{TreeMemory}
 use Rattle.model.specs.declared.Solution.{Solution}
 use Rattle.model.specs.declared.Solution.the-variants.{Unsolved, At}
-use Rattle.model.specs.Answers.{solved, noPath}
+use Rattle.model.specs.Answers.{answered, Status, waiting, solved, noPath}
 use Rattle.model.specs.Tree.{Tree, node}
 use Rattle.model.specs.Sound.{tree}
 use Rattle.model.specs.Path.{movesOf}
@@ -19,12 +20,12 @@ use Rattle.model.specs.Calls.{shownBy, shownTreeBy, statusAt, finalStatus}
 use Rattle.layout.specs.Read.{readCache}
 use Rattle.sound.specs.Facts.{SoundWords}
 use Rattle.memory.specs.Memory.{HasNode}
-use Rattle.memory.proofs.Fits.{best-few, held-node, valid-fits}
-use Rattle.entry_turns.specs.Turn.{CanStep}
+use Rattle.memory.proofs.Fits.{held-node, valid-fits}
+use Rattle.entry_turns.specs.Turn.{CanStep, bestEntry}
 use Rattle.memory.specs.declared.Shown.{Shown}
 use Rattle.memory.specs.declared.Shown.the-variants as shown
 use Rattle.memory.specs.Standing.{shownAt, shownFor, shownIn}
-use Rattle.unchecked.specs.Shown.{CanShow, Shows, statusOf}
+use Rattle.unchecked.specs.Shown.{shownOf, Shows, statusOf, lastStatus, lastAnswer}
 
 -- ---- by what the record holds
 
@@ -67,12 +68,36 @@ module _ {x : Shown} {i n : ℕ} (e : x ≡ shown.Node i n) where
   pub node-shown : {ws : List ℕ} → Shows ws x → HasNode ws i n
   node-shown {ws} h = subst (Shows ws) e h
 
+-- ---- by the entry that found the best
+
+holder-shows : (s : Search) (b : BestSolution) → shownOf b (entry s (bestEntry b)) ≡ shownFor s b
+holder-shows s NoBest = refl
+holder-shows s (Best i n) = refl
+
+pub holder-is : (s : Search) {j : ℕ} → j ≡ bestEntry (s .«best_solution») → shownOf (s .«best_solution») (entry s j) ≡ shownIn s
+holder-is s e = ap (λ (k : ℕ). shownOf (s .«best_solution») (entry s k)) e ∙ holder-shows s (s .«best_solution»)
+
+pub best-shown : (ws : List ℕ) {b : BestSolution} {i n : ℕ} → b ≡ Best i n → (e : TreeMemory) {x : Shown} → x ≡ shownAt e (e .solution) → Shows ws (shownOf b e) → Shows ws x
+best-shown ws best e is h = subst (Shows ws) (ap (λ (b : BestSolution). shownOf b e) best ∙ sym is) h
+
+-- ---- what is told: where there is no best, and where there is one and x is shown
+
+pub told-none : (ts : List Tree) {b : BestSolution} → b ≡ NoBest → (e : TreeMemory) → answered noPath ≡ lastAnswer ts b e
+told-none ts z e = sym (ap (λ (b : BestSolution). lastAnswer ts b e) z)
+
+module _ (ts : List Tree) {b : BestSolution} {i n : ℕ} (best : b ≡ Best i n) (e : TreeMemory) {x : Shown} (is : x ≡ shownAt e (e .solution)) where
+  told-by : answered (lastStatus ts x) ≡ lastAnswer ts b e
+  told-by = ap (λ (y : Shown). answered (lastStatus ts y)) is ∙ sym (ap (λ (y : BestSolution). lastAnswer ts y e) best)
+
+  pub told-nothing : x ≡ shown.Nothing → answered waiting ≡ lastAnswer ts b e
+  told-nothing z = sym (ap (λ (y : Shown). answered (lastStatus ts y)) z) ∙ told-by
+
+  pub told-node : {j h : ℕ} → x ≡ shown.Node j h → {st : Status} → st ≡ statusOf ts x → answered st ≡ lastAnswer ts b e
+  told-node z is-status = ap answered (is-status ∙ ap (statusOf ts) z) ∙ sym (ap (λ (y : Shown). answered (lastStatus ts y)) z) ∙ told-by
+
 -- ---- of a record that may be stepped
 
 module _ {ws : List ℕ} {s : Search} (v : CanStep ws s) where
-  pub can-show : CanShow s
-  can-show i n e = best-few (v .sound) (v .fits) e
-
   pub shows : Shows ws (shownIn s)
   shows = shown-cases s (Shows ws) (λ b. tt) (λ i n b e. tt) (λ i n h b e. held-node (v .sound, v .fits .held i (v .fits .best i n b .0)) e)
 

@@ -5,21 +5,17 @@ use mathlib.Core.Bool.{Bool, true, false}
 use mathlib.Core.List.{List}
 use Prim.Native.Nat.{ℕ, zero, suc, _+_, _-_, _≤_}
 use native.Mathlib.Omega.{arith}
-use Rattle.model.specs.declared.SearchStatus.the-variants.{Incomplete}
 use Rattle.model.specs.declared.StepAnswer.{StepAnswer}
-use Rattle.model.specs.declared.StepAnswer.the-variants as stepping
 use Rattle.model.specs.declared.Search.{Search}
-use Rattle.model.specs.declared.Stepped.{Stepped}
 use Rattle.model.specs.declared.StepsTaken.{StepsTaken}
 use Rattle.model.specs.Answers.{Reply, Status, stepReply}
 use Rattle.model.specs.Calls.{Cache, step}
 use Rattle.model.specs.Solve.{isWaiting, lastReply, AfterSteps, stepsFrom, solve}
 use Rattle.model.proofs.Solve.{is-waiting, steps-none, steps-wait, steps-end, last, solve-some, solve-from, solve-looks}
-use Rattle.model.proofs.Replies.{step-told}
 use Rattle.layout.specs.Read.{readCache}
 use Rattle.sound.specs.Facts.{SoundWords}
 use Rattle.unchecked.specs.Step.{Leaves, Advances}
-use Rattle.unchecked.specs.Solve.{Waited, at-first, StepsMade, all-wait, one-ends, LeavesAfter, Solves}
+use Rattle.unchecked.specs.Solve.{Waited, StepsMade, all-wait, one-ends, LeavesAfter, Solves}
 use Rattle.unchecked.proofs.Advanced.{leaves-same, rests}
 use Rattle.unchecked.proofs.Waits.{leaves-all, unmoved, waited-stays}
 
@@ -72,20 +68,14 @@ module _ (ws : List ℕ) (s : Search) (ok : SoundWords ws) where
       solves (one-ends r a below v p e told) (ends-at n below v final) (told ∙ ap (lastReply w) (p .answer)) refl
       (ap (λ (k : ℕ). t + k) (p .tickets)) (p .search) (p .cache) (p .sound) (subst (LeavesAfter w ws s) (sym same) (h .words))
 
-  -- with no steps: how the search stands
-  pub stands-solves : (n : ℕ) → n ≡ 0 → (a : StepAnswer) → stepReply a ≡ step c s .reply
-      → Solves ws s n (record { answer = a; waits = 0; tickets = 0; search = s }) ws
-  stands-solves n none a e = go (isWaiting (stepReply a)) refl
-    where
-      go : (b : Bool) → isWaiting (stepReply a) ≡ b → Solves ws s n (record { answer = a; waits = 0; tickets = 0; search = s }) ws
-      go true w =
-          let is : stepping.Status Incomplete ≡ a = sym (step-told a (stepping.Status Incomplete) (is-waiting (stepReply a) w)) in
-          let waits : Solves ws s 0 (record { answer = stepping.Status Incomplete; waits = 0; tickets = 0; search = s }) ws =
-          made-solves (all-wait at-first (λ z. ap isWaiting (sym e) ∙ w)) in
-          rw none (subst (λ (y : StepAnswer). Solves ws s 0 (record { answer = y; waits = 0; tickets = 0; search = s }) ws) is waits)
-      go false w =
-          let r : Stepped = record { answer = a; tickets = 0; search = s } in
-          made-solves (one-ends r a (omega arith) at-first (rests ws s ok a e w) w refl)
+  -- w steps waited, and the next one answers a, which is told as b
+  pub ends-here : {n w t : ℕ} {words : List ℕ} {next : Search} → w ≤ n - 1 → Waited Advances ws s w t words next
+      → (a : StepAnswer) → stepReply a ≡ step (readCache words) next .reply → isWaiting (stepReply a) ≡ false → {b : StepAnswer} → stepReply b ≡ lastReply w (stepReply a)
+      → Solves ws s n (record { answer = b; waits = w; tickets = t; search = next }) words
+  ends-here {n} {w} {t} {words} {next} within v a stands e {b} told =
+      let none : t + 0 ≡ t = omega arith in
+      subst (λ (k : ℕ). Solves ws s n (record { answer = b; waits = w; tickets = k; search = next }) words) none
+      (made-solves (one-ends (record { answer = a; tickets = 0; search = next }) b within v (rests words next (waited-stays ok v .sound) a stands e) e told))
 
   -- ---- one step, which tells what it answers
 

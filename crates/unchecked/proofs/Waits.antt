@@ -1,12 +1,14 @@
--- Steps that all waited, from sound words: the model's steps go on from there, and the words outside of the entries' slots are as they were.
+-- Steps that all waited, from sound words: the model's steps go on from there, the words outside of the entries' slots are as they were, and how many
+-- tickets they took.
 -- Assumes nothing.
 use mathlib.Core.Path.{_≡_, refl, sym, ap, ap₂, _∙_, subst}
 use mathlib.Core.Bool.{true, false, true≢false}
 use mathlib.Core.List.{List}
-use Prim.Native.Nat.{ℕ, suc, _+_, _<_}
+use Prim.Native.Nat.{ℕ, suc, _+_, _*_, _<_, _≤_}
 use native.Mathlib.Numerals.{add-one}
 use native.Mathlib.Omega.{arith}
 use lib.ListN.{getD}
+use Rattle.model.specs.Limits.{stepTickets}
 use Rattle.model.specs.declared.Search.{Search}
 use Rattle.model.specs.declared.Stepped.{Stepped}
 use Rattle.model.specs.Answers.{Reply, answered, refused, Status, waiting, solved, noPath, stepReply}
@@ -19,7 +21,7 @@ use Rattle.sound.specs.Facts.{SoundWords}
 use Rattle.entry_turns.specs.Turn.{InSlot, Apart}
 use Rattle.unchecked.specs.Step.{Leaves, Advances}
 use Rattle.unchecked.specs.Solve.{StepPromise, Waited, at-first, once-more, LeavesAfter}
-use Rattle.unchecked.proofs.Records.{step-slots, step-count}
+use Rattle.unchecked.proofs.Records.{step-few, step-slots, step-count}
 
 -- a step that does not wait leaves the words
 pub leaves-all : (x : Reply Status) (ws : List ℕ) (s : Search) (left : List ℕ) → isWaiting x ≡ false → Leaves x ws s left → left ≡ ws
@@ -120,3 +122,12 @@ pub waited-stays : {ws : List ℕ} {s : Search} {w t : ℕ} {mid : List ℕ} {x 
     → Stays ws s w t mid x
 waited-stays {ws} {s} ok at-first = stays-first ws s ok
 waited-stays {ws} {s} ok (once-more {left = left} r v p e) = stays-more (waited-stays ok v) r left p e
+
+-- ---- tickets
+
+pub advances-few : {ws : List ℕ} {s : Search} {r : Stepped} {left : List ℕ} → Advances ws s r left → r .tickets ≤ stepTickets
+advances-few {ws} {s} p = omega (arith, p .tickets, step-few (readCache ws) s)
+
+pub waited-few : {ws : List ℕ} {s : Search} {w t : ℕ} {mid : List ℕ} {x : Search} → Waited Advances ws s w t mid x → t ≤ stepTickets * w
+waited-few at-first = omega arith
+waited-few (once-more r v p e) = omega (arith, waited-few v, advances-few p)

@@ -2,12 +2,14 @@
 // or once for many, or know them sound by a theorem.
 pub mod shown;
 
+use entry_turns::best_entry;
 use entry_turns::step_trees;
 use layout::lists::are_vertices;
-use layout::wide;
 use memory::Shown;
 use memory::Standing;
 use memory::judge;
+use memory::shown_at;
+use model::BestSolution;
 use model::InitializeAnswer;
 use model::Refusal;
 use model::RetraceAnswer;
@@ -17,21 +19,22 @@ use model::SearchStatus;
 use model::StepAnswer;
 use model::Stepped;
 use model::StepsTaken;
+use model::TreeMemory;
 use model::limits::MAX_ENTRIES;
 use shown::not_retraced;
 use shown::retrace_shown;
 use shown::shown_of;
 use shown::status_of;
 ghost use mathlib.Core.Path.{_≡_};
-ghost use Prim.Native.Nat.{_<_};
 ghost use Rattle.model.specs.Answers.{stepReply};
 ghost use Rattle.model.specs.Calls.{step as Model·step};
-ghost use Rattle.model.specs.Solve.{isWaiting, lastReply};
+ghost use Rattle.model.specs.Solve.{isWaiting};
 ghost use Rattle.layout.specs.Read.{readCache};
 ghost use Rattle.sound.specs.Facts.{SoundWords};
 ghost use Rattle.unchecked.specs.Initialize.{Initializes, notOpened, CanOpenSearch, OpensSearch, CanTakeGoals, withGoals};
 ghost use Rattle.unchecked.specs.Step.{Advances, notStepped};
 ghost use Rattle.unchecked.specs.Solve.{Solves};
+ghost use Rattle.unchecked.specs.Shown.{Shows, shownOf, lastAnswer};
 ghost use Rattle.unchecked.specs.Run.{Runs, JustOpened, RunsToEnd};
 ghost use Rattle.unchecked.specs.Retrace.{Retraces};
 
@@ -106,7 +109,7 @@ pub fn step(words: &mut [u32], search: Search) -> Stepped
     requires { ⌜ SoundWords (now words) ⌝ }
     ensures { λ r. ⌜ Advances (now (words .entry)) search r (now (words .exit)) ⌝ }
 {
-    let taken = steps_to_answer(words, search, 1);
+    let taken = solve(words, search, 1);
     let answer = taken.answer;
     let next = taken.search;
     Stepped {
@@ -116,14 +119,15 @@ pub fn step(words: &mut [u32], search: Search) -> Stepped
     }
 }
 
-// At most so many steps, one after the other, up to an answer. With no steps it tells how the search stands, and changes nothing.
-// Where a step after the first is refused the answer is waiting, and the next call is refused.
+// At most so many steps, one after the other, up to an answer. With no steps it tells how the search stands, and changes nothing. The
+// record is judged once: a step leaves it passing all but the last test of refusal 8, by theorem. Where a step after the first is refused
+// the answer is waiting, and the next call is refused.
 pub fn solve(words: &mut [u32], search: Search, steps: u32) -> StepsTaken
     requires { ⌜ SoundWords (now words) ⌝ }
     ensures { λ r. ⌜ Solves (now (words .entry)) search steps r (now (words .exit)) ⌝ }
 {
-    if steps == 0 {
-        let answer = standing(words, search);
+    let answer = standing(words, search);
+    if !is_waiting(answer) {
         return StepsTaken {
             answer,
             waits: 0,
@@ -131,22 +135,15 @@ pub fn solve(words: &mut [u32], search: Search, steps: u32) -> StepsTaken
             search,
         };
     }
-    steps_to_answer(words, search, wide(steps))
-}
-
-// The same with a step at least.
-fn steps_to_answer(words: &mut [u32], search: Search, steps: usize) -> StepsTaken
-    requires { ⌜ SoundWords (now words) × ((0 < steps) × (steps < 4294967296)) ⌝ }
-    ensures { λ r. ⌜ Solves (now (words .entry)) search steps r (now (words .exit)) ⌝ }
-{
     let mut next = search;
-    let mut waits: usize = 0;
     let mut tickets: usize = 0;
-    while waits < steps {
-        let answer = standing(words, next);
-        if !is_waiting(answer) {
+    let mut waits: usize = 0;
+    while waits < steps as usize {
+        if next.exhausted {
+            let best = next.best_solution;
+            let holder = next.trees[best_entry(best)];
             return StepsTaken {
-                answer: last_answer(waits, answer),
+                answer: last_answer(words, best, holder),
                 waits,
                 tickets,
                 search: next,
@@ -154,8 +151,8 @@ fn steps_to_answer(words: &mut [u32], search: Search, steps: usize) -> StepsTake
         }
         let turned = step_trees(words, next);
         tickets += turned.tickets;
-        next = turned.search;
         waits += 1;
+        next = turned.search;
     }
     StepsTaken {
         answer: StepAnswer::Status(SearchStatus::Incomplete),
@@ -165,19 +162,19 @@ fn steps_to_answer(words: &mut [u32], search: Search, steps: usize) -> StepsTake
     }
 }
 
-// What is told of the step that did not wait.
-fn last_answer(waits: usize, answer: StepAnswer) -> StepAnswer
-    ensures { λ r. ⌜ stepReply r ≡ lastReply waits (stepReply answer) ⌝ }
+// What is told of a search that some steps finished, by the entry that found the best. Where that entry holds nothing a step is refused,
+// which is told as waiting.
+fn last_answer(words: &[u32], best: BestSolution, holder: TreeMemory) -> StepAnswer
+    requires { ⌜ Shows (now words) (shownOf best holder) ⌝ }
+    ensures { λ r. ⌜ stepReply r ≡ lastAnswer (readCache (now (words .entry)) .trees) best holder ⌝ }
 {
-    if waits == 0 {
-        return answer;
-    }
-    match answer {
-        StepAnswer::Status(status) => StepAnswer::Status(status),
-        StepAnswer::Refused {
-            refusal: _,
-            line: _,
-        } => StepAnswer::Status(SearchStatus::Incomplete),
+    let BestSolution::Best { entry: _, node: _ } = best else {
+        return StepAnswer::Status(SearchStatus::Impossible);
+    };
+    let shown = shown_at(holder);
+    match shown {
+        Shown::Nothing => StepAnswer::Status(SearchStatus::Incomplete),
+        Shown::Node { slot: _, node: _ } => StepAnswer::Status(status_of(words, shown)),
     }
 }
 
@@ -225,7 +222,9 @@ fn run_opened(words: &mut [u32], search: Search) -> SearchRun
         next = stepped.search;
         waits += 1;
     }
-    let shown = shown_of(next);
+    let best = next.best_solution;
+    let holder = next.trees[best_entry(best)];
+    let shown = shown_of(best, holder);
     SearchRun {
         answer: StepAnswer::Status(status_of(words, shown)),
         waits,

@@ -6,8 +6,8 @@ use memory::shown_at;
 use model::BestSolution;
 use model::Refusal;
 use model::RetraceAnswer;
-use model::Search;
 use model::SearchStatus;
+use model::TreeMemory;
 ghost use mathlib.Core.Path.{_≡_};
 ghost use Rattle.model.specs.Answers.{status};
 ghost use Rattle.model.specs.Tree.{node as Tree·node};
@@ -15,21 +15,17 @@ ghost use Rattle.model.specs.Sound.{tree};
 ghost use Rattle.model.specs.Path.{movesOf};
 ghost use Rattle.layout.specs.Read.{readCache};
 ghost use Rattle.memory.specs.Memory.{HasNode};
-ghost use Rattle.memory.specs.Standing.{shownIn};
-ghost use Rattle.unchecked.specs.Shown.{CanShow, Shows, statusOf};
+ghost use Rattle.unchecked.specs.Shown.{Shows, shownOf, statusOf};
 ghost use Rattle.unchecked.specs.Retrace.{RetracesShown, RetracesNode};
 
-// The solution that the best's entry holds.
-pub fn shown_of(search: Search) -> Shown
-    requires { ⌜ CanShow search ⌝ }
-    ensures { λ r. ⌜ r ≡ shownIn search ⌝ }
+// The solution that the entry holds which found the best.
+pub fn shown_of(best: BestSolution, holder: TreeMemory) -> Shown
+    ensures { λ r. ⌜ r ≡ shownOf best holder ⌝ }
 {
-    let best = search.best_solution;
-    let BestSolution::Best { entry, node: _ } = best else {
-        return Shown::Nothing;
-    };
-    let memory = search.trees[entry as usize];
-    shown_at(memory)
+    match best {
+        BestSolution::NoBest => Shown::Nothing,
+        BestSolution::Best { entry: _, node: _ } => shown_at(holder),
+    }
 }
 
 // The answer of a finished search.

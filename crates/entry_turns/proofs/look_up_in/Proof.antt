@@ -12,5 +12,4 @@ returns-2 : tie.Need-returns-2
 returns-2 c = search unknown-finds
 
 pub look-up-in-spec : {M : Type 1} → statement M
-look-up-in-spec =
-    tie.close (tie.spec (λ c κs. search needs) (λ c κs. search needs) returns (λ c κs. search needs) returns-2)
+look-up-in-spec = tie.close (tie.spec (λ c κs. search needs) returns (λ c κs. search needs) returns-2)

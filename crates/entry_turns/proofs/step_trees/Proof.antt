@@ -45,10 +45,10 @@ loop-holds : tie.Need-loop-holds Inv-loop μ-loop
 loop-holds c = walked-none (c .before .before .before .before .before .before .pre) (c .with-exhausted .ensures)
 
 mul-holder : tie.Need-mul-holder Inv-loop μ-loop
-mul-holder c = search (needs, best-place (has (at-test c)) (c .best-entry .ensures))
+mul-holder c = search (needs, best-place (has (at-test c) .can) (c .best-entry .ensures))
 
 element-copy-out-holder : tie.Need-element-copy-out-holder Inv-loop μ-loop
-element-copy-out-holder c = best-place (has (at-test c)) (c .best-entry .ensures)
+element-copy-out-holder c = best-place (has (at-test c) .can) (c .best-entry .ensures)
 
 cost-bound-requires : tie.Need-cost-bound-requires Inv-loop μ-loop
 cost-bound-requires c κs = let e = c .before .before .before in can-bound (has (at-test e)) (e .best-entry .ensures)

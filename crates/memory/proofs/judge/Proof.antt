@@ -15,7 +15,10 @@ Inv-loop words search trees count goals least₀ i₀ least i = Passed words sea
 abbrev μ-loop : tie.MeasureT-loop
 μ-loop words search trees count goals least₀ i₀ least i = i
 
--- ---- places: the tests of the counts, the loop's test, the best
+-- ---- places: the start, the tests of the counts, the loop's test, the best
+
+abbrev at-start : tie.Else2 Inv-loop μ-loop → tie.Start Inv-loop μ-loop
+at-start c = c .before .before .before .before .before
 
 abbrev at-counts : tie.After-keys2 Inv-loop μ-loop → tie.Else2 Inv-loop μ-loop
 at-counts c = c .before .before .before .before
@@ -34,7 +37,7 @@ returns-2 c = search many-goals
 
 part-goals-end : tie.Need-part-goals-end Inv-loop μ-loop
 part-goals-end c =
-    let a = at-counts c .before .before .before .before .before in
+    let a = at-start (at-counts c) in
     search (needs, arrays-long (a .args .search) _ (a .good .1 .0) .1)
 
 returns-3 : tie.Need-returns-3 Inv-loop μ-loop
@@ -44,7 +47,7 @@ loop-holds : tie.Need-loop-holds Inv-loop μ-loop
 loop-holds c =
     let v = c .before .before in
     let g = at-counts (v .before .before .before) in
-    let a = g .before .before .before .before .before in
+    let a = at-start g in
     let long = arrays-long (a .args .search) _ (a .good .1 .0) in
     let listed : Listed (a .args .search) = record {
       trees = long .0;
