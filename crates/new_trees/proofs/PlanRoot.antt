@@ -13,11 +13,11 @@ use Rattle.model.specs.Graph.{absent, rootCost, initialCost}
 use Rattle.model.specs.Search.{withEntry}
 use Rattle.layout.specs.Layout.{initialIn, directionIn, treesIn}
 use Rattle.layout.specs.Read.{directionOf, readCache}
-use Rattle.new_trees.specs.declared.Planned.{Planned}
+use Rattle.new_trees.specs.declared.TreePlan.{TreePlan}
 use Rattle.new_trees.specs.Plant.{Planning, planIf, CanPlanRoot, PlansRoot}
 use Rattle.new_trees.proofs.Planting.{root-cost-is}
 
-module _ {ws table : List ℕ} {p : Planned} {v : ℕ} (h : CanPlanRoot ws table p v) {w c : ℕ} (ew : w ≡ v) (ec : c ≡ rootCost (directionOf (directionIn ws)) (initialIn ws w)) where
+module _ {ws table : List ℕ} {p : TreePlan} {v : ℕ} (h : CanPlanRoot ws table p v) {w c : ℕ} (ew : w ≡ v) (ec : c ≡ rootCost (directionOf (directionIn ws)) (initialIn ws w)) where
   abbrev g : Planning
   g = record { plan = p; table = table }
 

@@ -16,7 +16,7 @@ use Rattle.model.proofs.Lists.{mem-nil, mem-cases}
 use Rattle.model.proofs.Keeps.{plants-keep}
 use Rattle.layout.specs.Read.{readCache}
 use Rattle.sound.proofs.Facts.{trees-length, sound-cache, vertices-read}
-use Rattle.new_trees.specs.declared.Planned.{Planned}
+use Rattle.new_trees.specs.declared.TreePlan.{TreePlan}
 use Rattle.new_trees.specs.Plant.{CanPlantAll, CanPlan, plantedIn, Plans}
 use Rattle.new_trees.proofs.NewTrees.{new-length}
 use Rattle.layout.specs.Layout.{slotsIn, treesIn, verticesIn}
@@ -33,7 +33,7 @@ unfolding newTree
 new-starts d [] = refl
 new-starts d (v ∷ vs) = ap (λ (xs : List ℕ). v ∷ xs) (new-starts d vs)
 
-module _ {ws vs : List ℕ} {r : Planned} (ok : CanPlan ws vs) (p : Plans ws vs r) where
+module _ {ws vs : List ℕ} {r : TreePlan} (ok : CanPlan ws vs) (p : Plans ws vs r) where
   abbrev d : Domain
   d = readCache ws .domain
 

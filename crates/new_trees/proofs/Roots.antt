@@ -17,7 +17,7 @@ use Rattle.model.specs.Search.{blank, entryOf, withEntry, seek, Planted, plant,
 use Rattle.model.proofs.Filled.{set-filled}
 use Rattle.layout.specs.Read.{readCache}
 use Rattle.sound.proofs.Facts.{trees-length}
-use Rattle.new_trees.specs.declared.Planned.{Planned}
+use Rattle.new_trees.specs.declared.TreePlan.{TreePlan}
 use Rattle.new_trees.specs.Plant.{withNew, CanPlan, plantedIn, Plans, slotWord, SlotTable, CanPlanRoot, Planning, planIf, PlansRoot}
 use Rattle.new_trees.proofs.NewTrees.{take-next, new-append, new-length}
 use Rattle.new_trees.proofs.Table.{table-more}
@@ -57,7 +57,7 @@ entry-more es i h = λ x. record {
 
 -- ---- the plan and the table after n roots, where q is the model's planting
 
-pub record Matches (ws : List ℕ) (q : Planted) (n : ℕ) (p : Planned) (table : List ℕ) : Type 0 where
+pub record Matches (ws : List ℕ) (q : Planted) (n : ℕ) (p : TreePlan) (table : List ℕ) : Type 0 where
   pub search : p .search ≡ newSearch (q .entries) []
   pub short : length (q .entries) ≤ n
   pub count : p .count ≤ n
@@ -65,7 +65,7 @@ pub record Matches (ws : List ℕ) (q : Planted) (n : ℕ) (p : Planned) (table 
   pub trees : q .trees ≡ withNew (readCache ws .domain) (readCache ws .trees) (take (p .count) (p .starts))
   pub slots : SlotTable (q .trees) table
 
-module _ {ws : List ℕ} {q : Planted} {n : ℕ} {p : Planned} {table : List ℕ} (h : Matches ws q n p table) (few : n < 64) where
+module _ {ws : List ℕ} {q : Planted} {n : ℕ} {p : TreePlan} {table : List ℕ} (h : Matches ws q n p table) (few : n < 64) where
   abbrev d : Domain
   d = readCache ws .domain
 
@@ -127,7 +127,7 @@ matches-none {ws} {table} e h = record {
   slots = rw (append-nil table) h;
 }
 
-module _ {ws vs table : List ℕ} {p : Planned} {i : ℕ} (ok : CanPlan ws vs) (h : Matches ws (plantedIn ws (take i vs)) i p table) where
+module _ {ws vs table : List ℕ} {p : TreePlan} {i : ℕ} (ok : CanPlan ws vs) (h : Matches ws (plantedIn ws (take i vs)) i p table) where
   pub table-room : 1024 ≤ length table
   table-room = omega (arith, h .slots .len)
 
@@ -163,7 +163,7 @@ module _ {ws vs table : List ℕ} {p : Planned} {i : ℕ} (ok : CanPlan ws vs) (
     matches : let g = planned table (slotWord (seek (q .trees) v 0)) in Matches ws (withRoot (readCache ws .domain) q v) (i + 1) (g .plan) (g .table)
     matches = root-matches h (omega (arith, ok .few)) v small (eqb (initialCost (readCache ws .domain) v) absent) (seek (q .trees) v 0) refl
 
-    pub matches-next : {r : Planned} {t : List ℕ} → PlansRoot ws (take 1024 table) p (getD vs i 0) r t → Matches ws (plantedIn ws (take (i + 1) vs)) (i + 1) r (t ++ drop 1024 table)
+    pub matches-next : {r : TreePlan} {t : List ℕ} → PlansRoot ws (take 1024 table) p (getD vs i 0) r t → Matches ws (plantedIn ws (take (i + 1) vs)) (i + 1) r (t ++ drop 1024 table)
     matches-next {r} {t} e =
         let plan : _≡_ {A = Planning} (record { plan = r; table = t }) (planned table (slotWord (seek (q .trees) v 0))) =
         e ∙ ap (λ (x : List ℕ). planned x (getD x v 0)) lent ∙ ap (planned table) (h .slots .slot v small) in

@@ -18,7 +18,7 @@ use Rattle.layout.specs.Layout.{treeCountAt, slotAt, edgesIn, slotsIn, treesIn,
 use Rattle.layout.specs.Words.{treeHeader, nodeWords}
 use Rattle.layout.specs.Read.{readCache}
 use Rattle.sound.specs.Facts.{SoundWords}
-use Rattle.new_trees.specs.declared.Planned.{Planned}
+use Rattle.new_trees.specs.declared.TreePlan.{TreePlan}
 
 -- ---- planting: "New trees take the next slots in list order."
 
@@ -72,7 +72,7 @@ abbrev pub plantedIn : List ℕ → List ℕ → Planted
 plantedIn ws vs = let c = readCache ws in plantAll (c .domain) (c .trees) vs
 
 -- the entries are the model's, and its trees are those there and the new ones
-pub record Plans (ws vs : List ℕ) (r : Planned) : Type 0 where
+pub record Plans (ws vs : List ℕ) (r : TreePlan) : Type 0 where
   pub search : r .search ≡ newSearch (plantedIn ws vs .entries) []
   pub few : length (plantedIn ws vs .entries) ≤ listLimit
   pub count : r .count ≤ listLimit
@@ -93,7 +93,7 @@ pub record CanFindTrees (ws table : List ℕ) : Type 0 where
   pub sound : SoundWords ws
   pub zeros : table ≡ replicate vertexLimit 0
 
-pub record CanPlanRoot (ws table : List ℕ) (p : Planned) (v : ℕ) : Type 0 where
+pub record CanPlanRoot (ws table : List ℕ) (p : TreePlan) (v : ℕ) : Type 0 where
   pub sound : SoundWords ws
   pub len : length table ≡ vertexLimit
   pub entries : p .search .«tree_count» < listLimit
@@ -101,7 +101,7 @@ pub record CanPlanRoot (ws table : List ℕ) (p : Planned) (v : ℕ) : Type 0 wh
   pub vertex : v < verticesIn ws
 
 pub record Planning : Type 0 where
-  pub plan : Planned
+  pub plan : TreePlan
   pub table : List ℕ
 
 -- "Starts without a start cost are skipped. Each other start makes one entry .., and one tree per start motif is shared."
@@ -114,7 +114,7 @@ planIf false zero used v g =
     let next = used + p .count in
     record { plan = record { search = withEntry (p .search) next; starts = set (p .starts) (p .count) v; count = p .count + 1 }; table = set (g .table) v (next + 1) }
 
-abbrev pub PlansRoot : List ℕ → List ℕ → Planned → ℕ → Planned → List ℕ → Type 0
+abbrev pub PlansRoot : List ℕ → List ℕ → TreePlan → ℕ → TreePlan → List ℕ → Type 0
 PlansRoot ws table p v r table′ =
     _≡_ {A = Planning} (record { plan = r; table = table′ })
     (planIf (eqb (initialCost (readCache ws .domain) v) absent) (getD table v 0) (treesIn ws) v (record { plan = p; table = table }))

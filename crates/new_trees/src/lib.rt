@@ -16,20 +16,20 @@ ghost use Rattle.layout.specs.Read.{readCache};
 ghost use Rattle.new_trees.specs.Plant.{CanPlan, Plans, SlotTable, CanFindTrees, PlansRoot, CanPlanRoot, CanPlant, Plants, CanPlantAll, PlantsAll, rootWords};
 
 // The entries of a search, and the start vertices of the trees that are not there yet.
-pub struct Planned {
+pub struct TreePlan {
     pub search: Search,
     pub starts: [u32; MAX_ENTRIES],
     pub count: usize,
 }
 
 // An entry for each root, and one new tree for each start vertex that has none; nothing is written.
-pub fn plan(words: &[u32], roots: &[u32]) -> Planned
+pub fn plan(words: &[u32], roots: &[u32]) -> TreePlan
     requires { ⌜ CanPlan (now words) (now roots) ⌝ }
     ensures { λ r. ⌜ Plans (now (words .entry)) (now (roots .entry)) r ⌝ }
 {
     let mut table = [0u32; MAX_VERTICES];
     find_trees(words, &mut table[0..MAX_VERTICES]);
-    let mut plan = Planned {
+    let mut plan = TreePlan {
         search: Search::empty(),
         starts: [0; MAX_ENTRIES],
         count: 0,
@@ -57,7 +57,7 @@ fn find_trees(words: &[u32], table: &mut [u32])
 }
 
 // A root without an initial cost is skipped.
-fn plan_root(words: &[u32], table: &mut [u32], plan: Planned, vertex: u32) -> Planned
+fn plan_root(words: &[u32], table: &mut [u32], plan: TreePlan, vertex: u32) -> TreePlan
     requires { ⌜ CanPlanRoot (now words) (now table) plan vertex ⌝ }
     ensures { λ r. ⌜ PlansRoot (now (words .entry)) (now (table .entry)) plan vertex r (now (table .exit)) ⌝ }
 {
@@ -68,7 +68,7 @@ fn plan_root(words: &[u32], table: &mut [u32], plan: Planned, vertex: u32) -> Pl
     let slot = table[wide(vertex)];
     if slot != 0 {
         let starts = plan.starts;
-        return Planned {
+        return TreePlan {
             search: search.with_entry(slot - 1),
             starts,
             count: plan.count,
@@ -79,7 +79,7 @@ fn plan_root(words: &[u32], table: &mut [u32], plan: Planned, vertex: u32) -> Pl
     let next = (layout::header(words, layout::TREES) + count) as u32;
     starts[count] = vertex;
     table[wide(vertex)] = next + 1;
-    Planned {
+    TreePlan {
         search: search.with_entry(next),
         starts,
         count: count + 1,

@@ -15,7 +15,7 @@ use Rattle.model.specs.Lists.{allBelow}
 use Rattle.layout.specs.Read.{readCache}
 use Rattle.tree.proofs.Parts.{below-in}
 use Rattle.sound.specs.Facts.{SoundWords}
-use Rattle.new_trees.specs.declared.Planned.{Planned}
+use Rattle.new_trees.specs.declared.TreePlan.{TreePlan}
 use Rattle.new_trees.specs.Plant.{plantedIn, withNew, CanPlantAll, PlantsAll, Plans}
 use Rattle.new_trees.proofs.Plans.{planned-length, planned-starts, can-plant-all}
 use Rattle.unchecked.specs.Initialize.{notOpened, CanOpenSearch, OpensIf, OpensSearch, newStarts, CanTakeGoals, withGoals}
@@ -31,7 +31,7 @@ can-open {ws} {vs} ok {m} count few goals below = record {
 }
 
 -- r: what was planned; t of the slots, u in use
-module _ {ws vs gs : List ℕ} (ok : CanOpenSearch ws vs gs) {r : Planned} (p : Plans ws vs r) {t u : ℕ} (slots : t ≡ slotsIn ws) (used : u ≡ treesIn ws) where
+module _ {ws vs gs : List ℕ} (ok : CanOpenSearch ws vs gs) {r : TreePlan} (p : Plans ws vs r) {t u : ℕ} (slots : t ≡ slotsIn ws) (used : u ≡ treesIn ws) where
   new-count : length (plantedIn ws vs .trees) - treesIn ws ≡ r .count
   new-count = omega (arith, planned-length (ok .plan) p)
 

@@ -26,11 +26,12 @@ returns-2 c =
 
 returns-3 : tie.Need-returns-3
 returns-3 c =
-    let t = c .before .before .before .before in
+    let h = c .before .before in
+    let t = h .before .before in
     let e = at-if1 (t .before) in
     let r = e .before in
     plan-plants (at-start r .pre) (r .before .wide .ensures) (r .root-cost .ensures) (e .if1 .left)
-    (t .before .before .wide2 .ensures) refl (t .if2 .left) (c .before .before .header .ensures) (c .before .wide3 .ensures) (c .with-entry2 .ensures)
+    (t .before .before .wide2 .ensures) refl (t .if2 .left) (h .header .ensures) (c .before .wide3 .ensures) (c .with-entry2 .ensures)
 
 pub plan-root-spec : {M : Type 1} → statement M
 plan-root-spec =
