@@ -24,7 +24,7 @@ use Rattle.text.proofs.Examples.{exampleText}
 use Rattle.layout.specs.Read.{readCache}
 use Rattle.layout.specs.Sound.{soundWordsb}
 use Rattle.cache.specs.Open.{Opening, openCache}
-use Rattle.unchecked.specs.Initialize.{notOpened}
+use Rattle.opening.specs.Initialize.{notOpened}
 use Rattle.dijkstra.specs.Calls.{Initializing}
 use Rattle.dijkstra.specs.Demands.{Same, Right}
 use Rattle.dijkstra.proofs.HistoryExample.{words0, words1, words2, words3, openedSearch, foundSearch, finishedSearch, opens, opened0, initializes, waits, step1, step2, solved7, step3, openedBetween, initializes-between, slice, shown, shows}

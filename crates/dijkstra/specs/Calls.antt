@@ -15,7 +15,7 @@ use Rattle.model.specs.Calls.{Cache, AfterInitialize, initialize, AfterStep, st
 use Rattle.layout.specs.Layout.{directionIn}
 use Rattle.layout.specs.Read.{directionOf, readCache}
 use Rattle.layout.specs.Sound.{soundWordsb}
-pub use Rattle.unchecked.specs.Initialize.{initializedWords}
+pub use Rattle.opening.specs.Initialize.{initializedWords}
 use Rattle.unchecked.specs.Step.{Leaves}
 pub use Rattle.unchecked.specs.Retrace.{afterRetrace}
 

@@ -12,9 +12,9 @@ pub fn initialize(words: &mut [u32], starts: &[u32], goals: &[u32]) -> SearchOpe
     ensures { λ r. ⌜ Initializing (now (words .entry)) (now (starts .entry)) (now (goals .entry)) r (now (words .exit)) ⌝ }
 {
     if !sound::is_sound(words) {
-        return unchecked::not_opened(Refusal::Unsound);
+        return opening::not_opened(Refusal::Unsound);
     }
-    unchecked::initialize(words, starts, goals)
+    opening::initialize(words, starts, goals)
 }
 
 // One step of a search, which comes back changed beside the answer.

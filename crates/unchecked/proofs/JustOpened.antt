@@ -28,7 +28,7 @@ use Rattle.model.proofs.Demand3.{opened-state}
 use Rattle.layout.specs.Read.{readCache}
 use Rattle.sound.specs.Facts.{SoundWords}
 use Rattle.sound.proofs.Facts.{sound-accepted, sound-cache}
-use Rattle.unchecked.specs.Initialize.{Initializes}
+use Rattle.opening.specs.Initialize.{Initializes}
 use Rattle.memory.specs.declared.Shown.the-variants as shown
 use Rattle.unchecked.specs.declared.SearchRun.{SearchRun}
 use Rattle.unchecked.specs.Run.{ticketLimit, RunsToEnd, RunsAfter, Runs, JustOpened}

@@ -3,9 +3,6 @@ pub mod Nodes
 pub mod ShownNode
 pub mod Advanced
 pub mod Records
-pub mod Goals
-pub mod Opened
-pub mod Initialized
 pub mod RetracedNode
 pub mod Retraced
 pub mod Waits

@@ -29,7 +29,7 @@ use Rattle.memory.specs.declared.Shown.{Shown}
 use Rattle.memory.specs.Standing.{shownIn}
 use Rattle.unchecked.specs.Retrace.{Retraces, retraceNodeIf, retraceNode, retraceShown}
 use Rattle.unchecked.proofs.ShownNode.{shown-cases}
-use Rattle.unchecked.proofs.Initialized.{direction-is}
+use Rattle.opening.proofs.Initialized.{direction-is}
 use Rattle.layout.specs.Layout.{directionIn}
 
 module _ (ws : List ℕ) (s : Search) (p : List ℕ) where

@@ -1,5 +1,4 @@
 pub mod Shown
-pub mod Initialize
 pub mod Step
 pub mod Solve
 pub mod Retrace

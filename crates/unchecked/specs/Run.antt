@@ -17,7 +17,7 @@ use Rattle.layout.specs.Read.{readCache}
 use Rattle.sound.specs.Facts.{SoundWords}
 use Rattle.memory.specs.declared.Shown.the-variants as shown
 use Rattle.unchecked.specs.declared.SearchRun.{SearchRun}
-use Rattle.unchecked.specs.Initialize.{Initializes}
+use Rattle.opening.specs.Initialize.{Initializes}
 use Rattle.unchecked.specs.Solve.{Solves}
 use Rattle.unchecked.specs.Shown.{Shows, statusOf}
 use Rattle.unchecked.specs.Retrace.{retraceShown}

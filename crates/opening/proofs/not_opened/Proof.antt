@@ -4,8 +4,8 @@ use mathlib.Core.Path.{ap}
 use borrow.Author.Needs.{needs}
 use Rattle.model.specs.declared.Search.{Search}
 use Rattle.model.specs.declared.InitializeAnswer.the-variants.{Refused}
-use Rattle.unchecked.proofs.not_opened.Statement.{statement}
-use Rattle.unchecked.proofs.not_opened.Tie as tie
+use Rattle.opening.proofs.not_opened.Statement.{statement}
+use Rattle.opening.proofs.not_opened.Tie as tie
 
 returns : tie.Need-returns
 returns c = ap (λ (s : Search). record { answer = Refused (c .before .args .refusal) 0; search = s }) (c .empty .ensures)

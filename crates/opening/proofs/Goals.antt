@@ -12,7 +12,7 @@ use Rattle.model.specs.declared.TreeMemory.{TreeMemory}
 use Rattle.model.specs.declared.Search.{Search}
 use Rattle.model.specs.Search.{withGoal, newSearch}
 use Rattle.model.proofs.Filled.{set-filled}
-use Rattle.unchecked.specs.Initialize.{withGoals}
+use Rattle.opening.specs.Initialize.{withGoals}
 
 module _ (gs : List ℕ) (i : ℕ) (s : Search) {x : Search} (e : withGoals s (drop i gs) ≡ x) where
   pub goals-next : i < length gs → withGoals (withGoal s (getD gs i 0)) (drop (i + 1) gs) ≡ x

@@ -6,10 +6,10 @@ use native.Mathlib.Omega.{arith}
 use borrow.Author.Needs.{needs}
 use lib.ListN.{length, drop}
 use Rattle.model.specs.declared.Search.{Search}
-use Rattle.unchecked.specs.Initialize.{withGoals}
-use Rattle.unchecked.proofs.Goals.{goals-next, goals-end}
-use Rattle.unchecked.proofs.with_goals.Statement.{statement}
-use Rattle.unchecked.proofs.with_goals.Tie as tie
+use Rattle.opening.specs.Initialize.{withGoals}
+use Rattle.opening.proofs.Goals.{goals-next, goals-end}
+use Rattle.opening.proofs.with_goals.Statement.{statement}
+use Rattle.opening.proofs.with_goals.Tie as tie
 
 abbrev Inv-loop : tie.InvT-loop
 Inv-loop goals next₀ i₀ next i =

@@ -5,10 +5,10 @@ use mathlib.Core.Bool.{true}
 use borrow.Author.Needs.{needs}
 use borrow.Author.Tests.{not-true, not-false}
 use Rattle.model.specs.Lists.{allBelow}
-use Rattle.unchecked.proofs.Opened.{can-open}
-use Rattle.unchecked.proofs.Initialized.{forward-lists, backward-lists, starts-over, goals-over, start-past, goal-past, opened}
-use Rattle.unchecked.proofs.initialize.Statement.{statement}
-use Rattle.unchecked.proofs.initialize.Tie as tie
+use Rattle.opening.proofs.Opened.{can-open}
+use Rattle.opening.proofs.Initialized.{forward-lists, backward-lists, starts-over, goals-over, start-past, goal-past, opened}
+use Rattle.opening.proofs.initialize.Statement.{statement}
+use Rattle.opening.proofs.initialize.Tie as tie
 
 -- ---- places: the start, from where all is lent and where the starts are few; both lists are, from the header; that, from where the starts are vertices;
 -- that, from where the goals are

@@ -1,9 +1,9 @@
 -- `open_search` meets its contract.
 -- Assumes nothing.
 use borrow.Author.Needs.{needs}
-use Rattle.unchecked.proofs.Opened.{no-slots, can-plant, takes-goals, is-opened}
-use Rattle.unchecked.proofs.open_search.Statement.{statement}
-use Rattle.unchecked.proofs.open_search.Tie as tie
+use Rattle.opening.proofs.Opened.{no-slots, can-plant, takes-goals, is-opened}
+use Rattle.opening.proofs.open_search.Statement.{statement}
+use Rattle.opening.proofs.open_search.Tie as tie
 
 -- ---- places: the start, from the plan; that, from where the first word was read; that, from the second; where there is room, from
 -- where the starts are planted; where they were, from the search

@@ -18,8 +18,8 @@ use Rattle.sound.specs.Facts.{SoundWords}
 use Rattle.new_trees.specs.declared.TreePlan.{TreePlan}
 use Rattle.new_trees.specs.Plant.{plantedIn, withNew, CanPlantAll, PlantsAll, Plans}
 use Rattle.new_trees.proofs.Plans.{planned-length, planned-starts, can-plant-all}
-use Rattle.unchecked.specs.Initialize.{notOpened, CanOpenSearch, OpensIf, OpensSearch, newStarts, CanTakeGoals, withGoals}
-use Rattle.unchecked.proofs.Goals.{goals-taken}
+use Rattle.opening.specs.Initialize.{notOpened, CanOpenSearch, OpensIf, OpensSearch, newStarts, CanTakeGoals, withGoals}
+use Rattle.opening.proofs.Goals.{goals-taken}
 use Rattle.layout.specs.Layout.{slotsIn, treesIn, verticesIn}
 
 -- the lists were judged

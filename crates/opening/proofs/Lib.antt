@@ -1,0 +1,4 @@
+-- Laws that belong to no one function.
+pub mod Goals
+pub mod Opened
+pub mod Initialized
