@@ -22,7 +22,7 @@ ghost use Rattle.queue.specs.Queue.{figures};
 ghost use Rattle.grow.specs.Grow.{Grew, SlotHolds, CanPushChoice, CanPushChoices, CanVisit, Visits, GoesOn};
 
 // "at most ten tickets": the Rust's `iterations_per_step`.
-pub const ITERATIONS_PER_STEP: usize = 10;
+const ITERATIONS_PER_STEP: usize = 10;
 
 // The tickets taken, and the goal's node if one was closed.
 pub struct Grown {

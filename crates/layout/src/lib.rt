@@ -30,7 +30,7 @@ pub const FROM: usize = 0;
 
 pub const TO: usize = 1;
 
-pub const COST: usize = 2;
+const COST: usize = 2;
 
 // The places of a tree's own three words.
 pub const START: usize = 0;
@@ -87,7 +87,7 @@ pub fn slots_at(vertices: usize, edges: usize) -> usize
 }
 
 // Within a tree's words: the nodes, the queue and the closed words.
-pub const NODES_AT: usize = 3;
+const NODES_AT: usize = 3;
 
 pub fn node_at(node: usize) -> usize
     requires { ⌜ nodeAt node < 2 ^ 64 ⌝ }
@@ -189,7 +189,7 @@ pub fn edge_cost(words: &[u32], vertices: usize, edge: usize) -> u32
 }
 
 // A word of a node, by its place among the node's words; `tree` has a tree's own words.
-pub fn node_word(tree: &[u32], node: usize, place: usize) -> u32
+fn node_word(tree: &[u32], node: usize, place: usize) -> u32
     requires { ⌜ NodeWord (length (now tree)) node place ⌝ }
     ensures { λ r. ⌜ r ≡ getD (now (tree .entry)) (nodeAt node + place) 0 ⌝ }
 {

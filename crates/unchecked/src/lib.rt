@@ -166,7 +166,7 @@ fn run_opened(words: &mut [u32], search: Search) -> SearchRun
 }
 
 // What a step of the search answers. A refused or a finished one does no more.
-pub fn standing(words: &[u32], search: Search) -> StepAnswer
+fn standing(words: &[u32], search: Search) -> StepAnswer
     requires { ⌜ SoundWords (now words) ⌝ }
     ensures { λ r. ⌜ stepReply r ≡ Model·step (readCache (now (words .entry))) search .reply ⌝ }
 {
@@ -180,7 +180,7 @@ pub fn standing(words: &[u32], search: Search) -> StepAnswer
     }
 }
 
-pub fn is_waiting(answer: StepAnswer) -> bool
+fn is_waiting(answer: StepAnswer) -> bool
     ensures { λ r. ⌜ r ≡ isWaiting (stepReply answer) ⌝ }
 {
     let StepAnswer::Status(status) = answer else {
