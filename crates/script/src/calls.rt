@@ -206,12 +206,8 @@ fn open(line: &[u8], f: Fields, record: Search, words: &mut [u32]) -> Search {
 
 fn open_search(starts: Numbers, goals: Numbers, record: Search, words: &mut [u32]) -> Search {
     let from = starts.numbers;
-    let from_all = &from[..];
-    let m = least(starts.count, from_all.len());
     let to = goals.numbers;
-    let to_all = &to[..];
-    let n = least(goals.count, to_all.len());
-    let opened = dijkstra::initialize(words, &from_all[0..m], &to_all[0..n]);
+    let opened = dijkstra::initialize(words, listed(&from, starts.count), listed(&to, goals.count));
     let answer = opened.answer;
     print_opened_search(answer);
     let InitializeAnswer::Initialized = answer else {
@@ -219,6 +215,12 @@ fn open_search(starts: Numbers, goals: Numbers, record: Search, words: &mut [u32
     };
     let search = opened.search;
     search
+}
+
+// So many of the numbers, or all that there are.
+fn listed<'a>(numbers: &'a [u32], count: usize) -> &'a [u32] {
+    let end = least(count, numbers.len());
+    &numbers[0..end]
 }
 
 fn step(f: Fields, record: Search, words: &mut [u32]) -> Search {
@@ -293,13 +295,14 @@ fn plan_lent(
     lent: usize,
 ) -> Search {
     let from = starts.numbers;
-    let from_all = &from[..];
-    let m = least(starts.count, from_all.len());
     let to = goals.numbers;
-    let to_all = &to[..];
-    let n = least(goals.count, to_all.len());
     let end = least(lent, run.len());
-    let planned = planner::plan(words, &from_all[0..m], &to_all[0..n], &mut run[0..end]);
+    let planned = planner::plan(
+        words,
+        listed(&from, starts.count),
+        listed(&to, goals.count),
+        &mut run[0..end],
+    );
     let answer = planned.answer;
     let moves = moves_of(answer);
     if planned.has_path {
