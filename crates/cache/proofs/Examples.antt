@@ -13,6 +13,7 @@ use Rattle.model.specs.Graph.{forward, backward, domain, absent}
 use Rattle.model.specs.Calls.{opened}
 use Rattle.text.specs.Bytes.{bytes}
 use Rattle.text.proofs.Examples.{exampleText, exampleGraph}
+use Rattle.layout.specs.Layout.{vertexIn}
 use Rattle.layout.specs.Read.{readCache}
 use Rattle.cache.specs.Open.{AfterOpen, openCache, Opening}
 
@@ -149,7 +150,7 @@ reads-tree : readCache
           }
           ∷ [];
     }
-unfolding readCache domain
+unfolding readCache vertexIn domain
 reads-tree = refl
 
 -- ---- what the promise of `open` shuts out: answers and words that a wrong program would leave, on 01's chart and on a text with a fault

@@ -1,7 +1,7 @@
 -- What two steps from the same words and record leave is the same, but for the arrangement of the queue words of the entries' trees.
 -- Assumes nothing.
 use mathlib.Core.Path.{_≡_, refl, sym, ap, _∙_, subst}
-use mathlib.Core.Logic.{_⊎_, inl, inr, _≢_}
+use mathlib.Core.Logic.{_⊎_, inl, inr}
 use mathlib.Core.Bool.{Bool, true, false, not}
 use mathlib.Core.Option.{none}
 use mathlib.Core.List.{List}
@@ -18,11 +18,11 @@ use Rattle.model.specs.Valid.{valid}
 use Rattle.model.specs.Calls.{Cache, AfterStep, orElse, stepBy, step}
 use Rattle.model.proofs.Replies.{step-told, answered-refused}
 use Rattle.model.proofs.Valid.{valid-at}
-use Rattle.layout.specs.Layout.{treeCountAt, slotsAt, queuedAt, queueAt, slotAt, treeWords, edgesIn, queuedIn, slotsIn, treesIn, verticesIn}
+use Rattle.layout.specs.Layout.{slotsAt, queuedAt, queueAt, slotAt, treeWords, edgesIn, queuedIn, slotsIn, treesIn, verticesIn}
 use Rattle.layout.specs.Read.{treeIn, readCache}
 use Rattle.layout.specs.Sound.{soundWordsb}
 use Rattle.layout.proofs.Places.{part-at}
-use Rattle.layout.proofs.Trees.{tree-graph}
+use Rattle.layout.proofs.Trees.{GraphStays, tree-graph}
 use Rattle.layout.specs.Slots.{slotWords}
 use Rattle.tree.specs.Tree.{Formed}
 use Rattle.tree.proofs.Same.{tree-of}
@@ -38,8 +38,7 @@ use Rattle.dijkstra.proofs.Histories.{step-is}
 
 -- ---- two slots that hold one tree
 
-module _ (m l k : ℕ) (a b : List ℕ) (f : Formed l (slotWords m l k a)) (g : Formed l (slotWords m l k b))
-    (graph : (j : ℕ) → j ≢ treeCountAt → j < slotsAt m l → getD b j 0 ≡ getD a j 0) where
+module _ (m l k : ℕ) (a b : List ℕ) (f : Formed l (slotWords m l k a)) (g : Formed l (slotWords m l k b)) (graph : GraphStays m l a b) where
   slot-determined : length (slotWords m l k a) ≡ treeWords m l → length (slotWords m l k b) ≡ treeWords m l
       → treeIn a m l (slotWords m l k a) ≡ treeIn b m l (slotWords m l k b)
       → (i : ℕ) → i < treeWords m l → (i < queueAt l) ⊎ (queueAt l + getD a (slotAt m l k + queuedAt) 0 ≤ i)

@@ -14,7 +14,7 @@ use Rattle.model.specs.Calls.{withTrees}
 use Rattle.layout.specs.Layout.{directionAt, vertexCountAt, edgeCountAt, slotCountAt, treeCountAt, treeWords, slotsAt, slotAt, edgesIn, slotsIn, startIn, treesIn, verticesIn}
 use Rattle.layout.specs.Read.{treeIn, readTrees, domainOf, readCache}
 use Rattle.layout.specs.Slots.{slotWords, slotOf, treeAt}
-use Rattle.layout.proofs.Trees.{tree-graph}
+use Rattle.layout.proofs.Trees.{GraphStays, tree-graph}
 use Rattle.tree.specs.Tree.{Formed}
 use Rattle.tree.proofs.Same.{part-same}
 use Rattle.sound.specs.Facts.{SoundIn, SoundWords, Ready}
@@ -36,7 +36,7 @@ module _ (ws left : List ℕ) (i : ℕ) (u : Tree) (ok : SoundWords ws) (used : 
   below : (j : ℕ) → j < slotsAt m l → getD left j 0 ≡ getD ws j 0
   below j b = h .outside .word j (inl (omega arith))
 
-  graph : (j : ℕ) → j ≢ treeCountAt → j < slotsAt m l → getD left j 0 ≡ getD ws j 0
+  graph : GraphStays m l ws left
   graph j ne b = below j b
 
   -- a tree's words, read with the words left

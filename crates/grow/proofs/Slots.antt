@@ -1,7 +1,7 @@
 -- The words of a slot: what they are after a part was lent and has come back, and that the graph's words stay.
 -- Assumes nothing.
 use mathlib.Core.Path.{_≡_, refl, sym, ap, ap₂, subst, _∙_}
-use mathlib.Core.Logic.{inl, inr, _≢_}
+use mathlib.Core.Logic.{inl, inr}
 use mathlib.Core.List.{List, _++_}
 use Prim.Native.Nat.{ℕ, _+_, _-_, _<_, _≤_}
 use native.Mathlib.Omega.{arith}
@@ -9,9 +9,9 @@ use lib.ListN.{length, getD, drop}
 use lib.Seq.{getD-take, getD-drop}
 use borrow.Rule.Slice.PartMut.{putMid, midOf, take-put, drop-put}
 use Rattle.model.specs.Tree.{Tree}
-use Rattle.layout.specs.Layout.{headerWords, vertexCountAt, edgeCountAt, treeCountAt, slotsAt, treeWords}
+use Rattle.layout.specs.Layout.{headerWords, vertexCountAt, edgeCountAt, treeWords}
 use Rattle.layout.specs.Read.{treeIn}
-use Rattle.layout.proofs.Trees.{tree-graph}
+use Rattle.layout.proofs.Trees.{GraphStays, tree-graph}
 use Rattle.layout.specs.declared.slots.Slot.{Slot}
 use Rattle.layout.specs.Slots.{wordsIn, treeAt, domainAt}
 use Rattle.graph.proofs.Parts.{put-mid, mid-put, put-length}
@@ -64,7 +64,7 @@ module _ {s : Slot} {ws : List ℕ} (r : Ready s ws) (ys : List ℕ) (same : len
       ∙ sym (put-mid ws zs (s .at) (s .end) ae)
 
   -- before the slots nothing was lent
-  graph-back : (j : ℕ) → j ≢ treeCountAt → j < slotsAt (s .vertices) (s .edges) → getD back j 0 ≡ getD ws j 0
+  graph-back : GraphStays (s .vertices) (s .edges) ws back
   graph-back j ne b = put-below ws ys (s .at) (s .end) ae (r .fits) n j (omega (arith, r .slot .at))
 
   pub put-holds : {u : Tree} → Formed (s .edges) ys → treeOf ws (s .edges) ys ≡ u → SlotHolds s ws back u
@@ -100,7 +100,7 @@ holds-refl r = record { outside = record { len = refl; word = λ j h. refl }; fo
 -- ---- the graph's words stand before all slots
 
 module _ {s : Slot} {ws left : List ℕ} {u : Tree} (r : Ready s ws) (h : SlotHolds s ws left u) where
-  graph-stays : (j : ℕ) → j ≢ treeCountAt → j < slotsAt (s .vertices) (s .edges) → getD left j 0 ≡ getD ws j 0
+  graph-stays : GraphStays (s .vertices) (s .edges) ws left
   graph-stays j ne b = h .outside .word j (inl (omega arith))
 
   header-stays : (j : ℕ) → j < headerWords → getD ws j 0 ≡ getD left j 0

@@ -2,7 +2,7 @@
 -- Assumes nothing.
 use mathlib.Core.Path.{_≡_, refl, sym, ap, _∙_}
 use mathlib.Core.Logic.{_≢_}
-use mathlib.Core.List.{List}
+use mathlib.Core.List.{List, map}
 use Prim.Native.Nat.{ℕ, _+_, _-_, _/_, _<_, _≤_}
 use native.Mathlib.Nat.{add-zero}
 use native.Mathlib.Decide.{ℕ-discrete}
@@ -12,10 +12,14 @@ use lib.Seq.{ext-getD}
 use Rattle.model.specs.Lists.{numbers}
 use Rattle.model.specs.Tree.{Node, noNode, node, closedAt}
 use Rattle.model.proofs.Lists.{up-length, map-up-at}
-use Rattle.layout.specs.Layout.{startAt, usedAt, queuedAt, startIn, usedIn, queuedIn, nodesAt, nodeSize, nodeAt, nodeEnd, nodeCostAt, nodeParentAt, nodeEdgeAt, closedWordsAt, closedWordIn, slotsAt, treeCountAt}
+use Rattle.layout.specs.Layout.{startAt, usedAt, queuedAt, startIn, usedIn, queuedIn, vertexIn, costIn, parentIn, edgeIn, nodesAt, nodeSize, nodeAt, nodeEnd, nodeCostAt, nodeParentAt, nodeEdgeAt, closedWordsAt, closedWordIn, slotsAt, treeCountAt}
 use Rattle.layout.specs.Words.{nodeWords}
 use Rattle.layout.specs.Read.{nodeIn, nodesIn, treeIn}
 use Rattle.layout.proofs.Places.{part-at, part-length}
+
+-- each word before the slots is as it was, but the count of trees in use
+abbrev pub GraphStays : ℕ → ℕ → List ℕ → List ℕ → Type 0
+GraphStays m l ws left = (j : ℕ) → j ≢ treeCountAt → j < slotsAt m l → getD left j 0 ≡ getD ws j 0
 
 pub nodes-in-length : (ws : List ℕ) (n : ℕ) (t : List ℕ) → length (nodesIn ws n t) ≡ n
 nodes-in-length ws n t = length-map (numbers n) (nodeIn ws t) ∙ up-length n 0
@@ -24,12 +28,27 @@ nodes-in-length ws n t = length-map (numbers n) (nodeIn ws t) ∙ up-length n 0
 pub node-at : (ws : List ℕ) (n : ℕ) (t : List ℕ) (k : ℕ) → k < n → node (nodesIn ws n t) k ≡ nodeIn ws t k
 node-at ws n t k h = map-up-at (nodeIn ws t) noNode n 0 k h ∙ ap (nodeIn ws t) (omega arith)
 
+-- ---- a node's vertex: nothing else looks into `vertexIn`
+
+-- it is the first of the node's words
+pub vertex-word : (ws t : List ℕ) (k : ℕ) → vertexIn ws t k ≡ getD t (nodeAt k) 0
+unfolding vertexIn
+vertex-word ws t k = refl
+
+-- the node's words stayed
+vertex-same : (ws s t : List ℕ) (k : ℕ) → ((j : ℕ) → nodeAt k ≤ j → j < nodeEnd k → getD t j 0 ≡ getD s j 0) → vertexIn ws t k ≡ vertexIn ws s k
+vertex-same ws s t k f = vertex-word ws t k ∙ f (nodeAt k) (omega arith) (omega arith) ∙ sym (vertex-word ws s k)
+
+-- before the slots the cache's words stayed, the count of trees apart
+vertex-graph : (m l : ℕ) (ws left t : List ℕ) (k : ℕ) → GraphStays m l ws left → vertexIn left t k ≡ vertexIn ws t k
+vertex-graph m l ws left t k same = vertex-word left t k ∙ sym (vertex-word ws t k)
+
 -- ---- the words of a node
 
 -- words that hold those of x
 pub words-node : (ws t : List ℕ) (k : ℕ) (x : Node) → ((i : ℕ) → i < nodeSize → getD t (nodeAt k + i) 0 ≡ getD (nodeWords x) i 0) → nodeIn ws t k ≡ x
 words-node ws t k x f = λ i. record {
-  vertex = (ap (λ (j : ℕ). getD t j 0) (sym (add-zero (nodeAt k))) ∙ f 0 (omega arith)) i;
+  vertex = (vertex-word ws t k ∙ ap (λ (j : ℕ). getD t j 0) (sym (add-zero (nodeAt k))) ∙ f 0 (omega arith)) i;
   cost = f nodeCostAt (omega arith) i;
   parent = f nodeParentAt (omega arith) i;
   edge = f nodeEdgeAt (omega arith) i;
@@ -38,7 +57,7 @@ words-node ws t k x f = λ i. record {
 -- words that stayed hold the same node
 pub node-same : (ws s t : List ℕ) (k : ℕ) → ((j : ℕ) → nodeAt k ≤ j → j < nodeEnd k → getD t j 0 ≡ getD s j 0) → nodeIn ws t k ≡ nodeIn ws s k
 node-same ws s t k f = λ i. record {
-  vertex = f (nodeAt k) (omega arith) (omega arith) i;
+  vertex = vertex-same ws s t k f i;
   cost = f (nodeAt k + nodeCostAt) (omega arith) (omega arith) i;
   parent = f (nodeAt k + nodeParentAt) (omega arith) (omega arith) i;
   edge = f (nodeAt k + nodeEdgeAt) (omega arith) (omega arith) i;
@@ -53,7 +72,7 @@ nodes-same ws n s t f =
 -- the node fixes its words
 pub node-words : (ws s t : List ℕ) (k j : ℕ) → nodeAt k ≤ j → j < nodeEnd k → nodeIn ws s k ≡ nodeIn ws t k → getD s j 0 ≡ getD t j 0
 node-words ws s t k j low high e = elim (ℕ-discrete j (nodeAt k)) [
-  | yes q ↦ rw q (ap (λ (x : Node). x .vertex) e)
+  | yes q ↦ rw q (sym (vertex-word ws s k) ∙ ap (λ (x : Node). x .vertex) e ∙ vertex-word ws t k)
   | no n0 ↦ elim (ℕ-discrete j (nodeAt k + nodeCostAt)) [
     | yes q ↦ rw q (ap (λ (x : Node). x .cost) e)
     | no n1 ↦ elim (ℕ-discrete j (nodeAt k + nodeParentAt)) [
@@ -95,7 +114,15 @@ module _ (ws : List ℕ) (m l : ℕ) (t : List ℕ) where
 
 -- ---- a tree's words beside other words of the cache
 
--- before the slots the words are the same, the count of trees apart: the tree is the same
-pub tree-graph : (m l : ℕ) (ws left t : List ℕ) → ((j : ℕ) → j ≢ treeCountAt → j < slotsAt m l → getD left j 0 ≡ getD ws j 0) → treeIn left m l t ≡ treeIn ws m l t
+node-graph : (m l : ℕ) (ws left t : List ℕ) (k : ℕ) → GraphStays m l ws left → nodeIn left t k ≡ nodeIn ws t k
+node-graph m l ws left t k same = λ i. record { vertex = vertex-graph m l ws left t k same i; cost = costIn t k; parent = parentIn t k; edge = edgeIn t k }
+
+-- before the slots the cache's words stayed: they hold the same tree
+pub tree-graph : (m l : ℕ) (ws left t : List ℕ) → GraphStays m l ws left → treeIn left m l t ≡ treeIn ws m l t
 unfolding treeIn
-tree-graph m l ws left t same = refl
+tree-graph m l ws left t same = λ i. record {
+  start = startIn t;
+  nodes = map (λ k. node-graph m l ws left t k same i) (numbers (usedIn t));
+  waiting = treeIn ws m l t .waiting;
+  closed = treeIn ws m l t .closed;
+}

@@ -131,8 +131,8 @@ nodeParentAt = 2
 abbrev pub nodeEdgeAt : ℕ
 nodeEdgeAt = 3
 
--- what node k of the tree t says; its vertex is read of the cache's words ws too
-abbrev pub vertexIn : List ℕ → List ℕ → ℕ → ℕ
+-- what node k of the tree t says; its vertex is read of the cache's words ws too, and only the laws of it (proofs/Trees.antt) look inside
+unfoldable pub vertexIn : List ℕ → List ℕ → ℕ → ℕ
 vertexIn ws t k = getD t (nodeAt k) 0
 
 abbrev pub costIn : List ℕ → ℕ → ℕ

@@ -10,7 +10,7 @@ use Rattle.model.specs.Lists.{allb, allBelow, upto}
 use Rattle.model.specs.Graph.{Graph, Domain, from, to, cost, absent, vertexCount, edgeCount, edgeNumbers}
 use Rattle.model.specs.Tree.{Node, precedes}
 use Rattle.model.specs.Sound.{soundb, starts, distinctb}
-use Rattle.layout.specs.Layout.{headerWords, placesAt, numbersAt, nodeAt, queueAt, closedWordsAt, slotAt, needed, part, directionIn, edgesIn, queuedIn, slotsIn, treesIn, usedIn, verticesIn}
+use Rattle.layout.specs.Layout.{headerWords, placesAt, numbersAt, nodeAt, queueAt, closedWordsAt, slotAt, needed, part, directionIn, edgesIn, queuedIn, slotsIn, treesIn, usedIn, vertexIn, verticesIn}
 use Rattle.layout.specs.Words.{firstPlaces}
 use Rattle.layout.specs.Read.{nodesIn, treeIn, readCache}
 use Rattle.layout.specs.Slots.{slotWords}
@@ -129,5 +129,5 @@ treesTests ws =
     ∷ []
 
 unfoldable pub soundWordsb : List ℕ → Bool
-unfolding upto sameb zerosb distinctb indexb treeWordsb readCache
+unfolding upto sameb zerosb distinctb indexb treeWordsb readCache vertexIn
 soundWordsb ws = allb (headerTests ws) && (allb (graphTests (readCache ws .domain) ws) && allb (treesTests ws))

@@ -12,12 +12,12 @@ use Rattle.model.specs.Graph.{Domain, initialCost}
 use Rattle.model.specs.Tree.{Tree, newTree}
 use Rattle.model.specs.Sound.{SoundTrees, noTree, tree}
 use Rattle.model.specs.Calls.{withTrees}
-use Rattle.layout.specs.Layout.{headerWords, directionAt, vertexCountAt, edgeCountAt, slotCountAt, treeCountAt, edgesIn, slotsIn, treesIn, verticesIn, startIn, nodeAt, treeWords, slotsAt, slotAt}
+use Rattle.layout.specs.Layout.{headerWords, directionAt, vertexCountAt, edgeCountAt, slotCountAt, treeCountAt, edgesIn, slotsIn, treesIn, verticesIn, startIn, nodeAt, treeWords, slotAt}
 use Rattle.layout.specs.Read.{treeIn, readTrees, domainOf, readCache}
 use Rattle.layout.specs.Held.{Held}
 use Rattle.layout.proofs.Edges.{vertex-count-in}
 use Rattle.layout.proofs.Places.{part-at}
-use Rattle.layout.proofs.Trees.{tree-graph}
+use Rattle.layout.proofs.Trees.{GraphStays, tree-graph}
 use Rattle.layout.specs.Slots.{slotWords}
 use Rattle.tree.specs.Tree.{Formed}
 use Rattle.tree.proofs.Added.{getD-sets-other}
@@ -75,7 +75,7 @@ module _ (ws : List ℕ) (v : ℕ) (h : CanPlant ws v) where
   count : treesIn left ≡ u + 1
   count = getD-set-same mid treeCountAt (u + 1) 0 (omega (arith, mid-len, fits))
 
-  before : (j : ℕ) → j ≢ treeCountAt → j < slotsAt m l → getD left j 0 ≡ getD ws j 0
+  before : GraphStays m l ws left
   before j ne b = stays j ne (inl (omega arith))
 
   header : (j : ℕ) → j ≢ treeCountAt → j < headerWords → getD left j 0 ≡ getD ws j 0
