@@ -1,6 +1,9 @@
 // One kind of call made many times, for bench/: `laps SLOTS FILL STARTS GOALS CALL COUNT`, with a chart on standard input. A forward
 // cache is opened, a search from each vertex of FILL to the goals is solved, and then one from the starts; CALL is made COUNT times
 // on the words left, each time with that search as it was opened. Prints a sum of what was answered.
+
+#![tactic(auto)]
+
 use layout::wide;
 use model::{OpenAnswer, Search};
 use order_lines::orders::{Numbers, read_list};

@@ -1,6 +1,9 @@
 // The calls as a board links them from C or Rust: numbers and slices only, each call under its plain name. A search is kept by the board as
 // the 390 words of its record (crate `search_words`). A call answers 0, or 01's number of its refusal, and then words, record and path are
 // as they were. include/perillabeam.h declares the same for C.
+
+#![tactic(auto)]
+
 ghost use Rattle.std.specs.Prelude.{◌≡◌, cond, ◌≤◌, length};
 ghost use Rattle.model.specs.Answers.{step_reply};
 ghost use Rattle.layout.specs.Sound.{sound_wordsb};

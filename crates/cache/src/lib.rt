@@ -1,4 +1,7 @@
 // A cache: the words that a board lends for one direction's graph and trees.
+
+#![tactic(auto)]
+
 ghost use Rattle.std.specs.Prelude.{◌≡◌, ◌∷◌, [], ◌++◌, ◌≤◌, length, drop, replicate};
 ghost use Rattle.model.specs.Limits.{slot_limit};
 ghost use Rattle.model.specs.Answers.{answered};

@@ -1,6 +1,9 @@
 // A sound cache, damaged word by word, and its trees grown: 01's chart, forward, three slots, a tree at vertex 0 after one ticket
 // and a new tree at vertex 1. A line for each word says what the check finds when the word is 0, 1, one more, and 4294967295.
 // Then a line for each growing: tickets, and the goal's node if one was found.
+
+#![tactic(auto)]
+
 ghost use Rattle.std.specs.Prelude.{◌<◌, ◌≤◌, length};
 
 use model::{CostBound, Solution};

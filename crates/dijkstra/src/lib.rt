@@ -1,6 +1,9 @@
 // The three calls on a cache: the Rust's `Dijkstra` and `BackwardDijkstra`. None asks for anything: a call that cannot be answered
 // is refused, and leaves words, record and path as they were. Each checks the words, and then is the call of crate `unchecked`.
 // Ported from open-rmf/mapf (mapf/src: algorithm/dijkstra/forward.rs, algorithm/dijkstra/backward.rs) and changed; Apache License 2.0, see NOTICE.
+
+#![tactic(auto)]
+
 ghost use Rattle.dijkstra.specs.Calls.{Initializing, Stepping, Retracing};
 
 use model::{Refusal, RetraceAnswer, Search, SearchOpened, Stepped};

@@ -1,4 +1,7 @@
 // A chart drawn as a Graphviz text: chart.txt of the current folder, with the run of an order bold if the first argument is one.
+
+#![tactic(auto)]
+
 mod picture;
 
 use order_sheet::MAX_BYTES;

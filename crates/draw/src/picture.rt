@@ -23,7 +23,7 @@ const SLOTS: usize = 16;
 const WORDS: usize = 190598;
 
 // The words of a path, or why there are none to draw.
-#[derive(Drop)]
+#[derive(Clone, Copy)]
 enum Found {
     Words(usize),
     Refused { refusal: Refusal, line: usize },

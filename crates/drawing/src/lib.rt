@@ -1,4 +1,7 @@
 // A chart as a Graphviz text.
+
+#![tactic(auto)]
+
 pub mod bold;
 pub mod lines;
 
@@ -19,7 +22,7 @@ use put_text::put_bytes;
 // The words of a forward cache of one slot for the largest graph there is.
 const WORDS: usize = 21518;
 
-#[derive(Drop)]
+#[derive(Clone, Copy)]
 pub enum DrawAnswer {
     Drawn(usize),
     Refused { refusal: Refusal, line: usize },

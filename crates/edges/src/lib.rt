@@ -1,12 +1,15 @@
 // The edges of a vertex, one after the other: the Rust's `SimpleGraphEdges`. Functions over a struct that holds a reference are
 // proved by hand; `next_at` has the work, and callers use `next_edge`, whose parameters are a plain slice and numbers.
 // Ported from open-rmf/mapf (mapf/src: graph/simple.rs) and changed; Apache License 2.0, see NOTICE.
+
+#![tactic(auto)]
+
 ghost use Rattle.std.specs.Prelude.{◌≡◌};
 ghost use Rattle.edges.specs.Edges.{next_at, Advances};
 
 // "a small cursor that holds the slice of links it walks": the edge numbers, the place of the next one, and where those of the
 // vertex end.
-#[derive(Drop)]
+#[derive(Clone, Copy)]
 pub struct SimpleGraphEdges<'a> {
     pub numbers: &'a [u32],
     pub place: usize,
@@ -14,21 +17,21 @@ pub struct SimpleGraphEdges<'a> {
 }
 
 // The edge at the cursor's place, or the end of the walk.
-#[derive(Drop)]
+#[derive(Clone, Copy)]
 pub enum NextEdge {
     Edge(u32),
     End,
 }
 
 // What `next` hands back: the edge, and the cursor moved past it; at the end it is not moved.
-#[derive(Drop)]
+#[derive(Clone, Copy)]
 pub struct Walked<'a> {
     pub edge: NextEdge,
     pub moved: SimpleGraphEdges<'a>,
 }
 
 // The same with the moved cursor's place alone.
-#[derive(Drop)]
+#[derive(Clone, Copy)]
 pub struct Placed {
     pub edge: NextEdge,
     pub place: usize,

@@ -1,6 +1,9 @@
 // The turns of a search's entries, one after the other: the Rust's loop over `memory.trees` in `step`. Only `step_trees` and the record's
 // methods are handed the record, for each function that it is handed to copies it.
 // Ported from open-rmf/mapf (mapf/src: algorithm/dijkstra/forward.rs) and changed; Apache License 2.0, see NOTICE.
+
+#![tactic(auto)]
+
 ghost use Rattle.std.specs.Prelude.{◌≡◌};
 ghost use Rattle.model.specs.Search.{grown, cheaper};
 ghost use Rattle.layout.specs.Read.{read_cache};
@@ -16,7 +19,7 @@ use model::{BestSolution, CostBound, KnownLen, Search, Solution, TreeMemory};
 use tree::partial_keyed_closed_set::{cheapest_goal, closed_keys_len};
 
 // The search after some turns, and the tickets taken in them.
-#[derive(Drop)]
+#[derive(Clone, Copy)]
 pub struct Turned {
     pub search: Search,
     pub tickets: usize,
@@ -24,7 +27,7 @@ pub struct Turned {
 
 // What an entry's turn came to: the closed count to remember, if there is one, its find, whether its queue keeps the search unfinished,
 // and the tickets taken.
-#[derive(Drop)]
+#[derive(Clone, Copy)]
 pub struct Outcome {
     pub known: KnownLen,
     pub find: Solution,
@@ -33,7 +36,7 @@ pub struct Outcome {
 }
 
 // What an entry's find comes to: there is nothing to record, or it replaces what the entry holds, and may be the best.
-#[derive(Drop)]
+#[derive(Clone, Copy)]
 pub enum Found {
     Nothing,
     Replaces { node: u32, is_best: bool },

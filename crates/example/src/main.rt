@@ -1,5 +1,8 @@
 // The calls as a controller makes them: a cache is opened from a chart, searches are opened on it, each is stepped once between two picks,
 // and its path is shown.
+
+#![tactic(auto)]
+
 ghost use Rattle.std.specs.Prelude.{◌≤◌};
 
 use layout::wide;

@@ -1,5 +1,8 @@
 // Growing a tree of a cache, at most ten tickets at a time: the Rust's loop `'grow` of `step`.
 // Ported from open-rmf/mapf (mapf/src: algorithm/dijkstra/forward.rs) and changed; Apache License 2.0, see NOTICE.
+
+#![tactic(auto)]
+
 ghost use Rattle.std.specs.Prelude.{◌≡◌, ◌<◌};
 ghost use Rattle.model.specs.Graph.{choices};
 ghost use Rattle.model.specs.Tree.{push_all, push_node, child, above};
@@ -21,14 +24,14 @@ use tree::partial_keyed_closed_set::{CloseResult, close};
 const ITERATIONS_PER_STEP: usize = 10;
 
 // The tickets taken, and the goal's node if one was closed.
-#[derive(Drop)]
+#[derive(Clone, Copy)]
 pub struct Grown {
     pub tickets: usize,
     pub solution: Solution,
 }
 
 // Whether the growing goes on after a ticket.
-#[derive(Drop)]
+#[derive(Clone, Copy)]
 pub enum Next {
     On,
     Found,

@@ -1,5 +1,8 @@
 // The step of a search that is lent by `&mut` and changed in place. A function over a reference to a struct is proved by hand, so the
 // entry only moves whole values and calls functions that are covered.
+
+#![tactic(auto)]
+
 ghost use Rattle.std.specs.Prelude.{◌≡◌};
 ghost use Rattle.dijkstra.specs.Calls.{Stepping};
 ghost use Rattle.in_place.specs.Lent.{report_of, stepped_as};
@@ -7,7 +10,7 @@ ghost use Rattle.in_place.specs.Lent.{report_of, stepped_as};
 use model::{Search, StepAnswer, Stepped};
 
 // What a step answered, without the record.
-#[derive(Drop)]
+#[derive(Clone, Copy)]
 pub struct StepReport {
     pub answer: StepAnswer,
     pub tickets: usize,

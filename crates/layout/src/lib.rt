@@ -1,5 +1,8 @@
 // Where each word of a cache stands. The places are defined once, in specs/Layout.antt; here is one function for each
 // area's start and one for each kind of word.
+
+#![tactic(auto)]
+
 pub mod lists;
 pub mod slots;
 

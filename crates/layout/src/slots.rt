@@ -6,7 +6,7 @@ ghost use Rattle.layout.specs.Slots.{slot_words, slot_of, Numbered, HasSlot};
 use crate::{EDGES, VERTICES, header, slot_at, tree_words};
 
 // Where the words of a tree stand.
-#[derive(Drop)]
+#[derive(Clone, Copy)]
 pub struct Slot {
     pub vertices: usize,
     pub edges: usize,

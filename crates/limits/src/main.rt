@@ -1,5 +1,8 @@
 // 01's limits, on slices that are long enough. Each line is one opening: vertices, edges, initial cost, cost, direction, slots and
 // words lent; then the answer, how many words it changed, and a sum of all words, those past the lent ones too.
+
+#![tactic(auto)]
+
 ghost use Rattle.std.specs.Prelude.{◌<◌, ◌≤◌, length};
 
 use layout::wide;
@@ -12,7 +15,7 @@ const VERTEX: usize = 24;
 const EDGE: usize = 35;
 
 // What a text is made of.
-#[derive(Drop)]
+#[derive(Clone, Copy)]
 struct Sample {
     vertices: u32,
     edges: u32,

@@ -1,5 +1,8 @@
 // Whether a search record is one of a cache's: refusal 8. The Rust's `Memory` holds its trees and paths, ours names them by number.
 // Ported from open-rmf/mapf (mapf/src: algorithm/dijkstra/forward.rs) and changed; Apache License 2.0, see NOTICE.
+
+#![tactic(auto)]
+
 ghost use Rattle.std.specs.Prelude.{◌≡◌};
 ghost use Rattle.model.specs.Lists.{allb};
 ghost use Rattle.model.specs.Worth.{solution_cost};
@@ -20,14 +23,14 @@ use tree::partial_keyed_closed_set;
 use tree::partial_keyed_closed_set::{ClosedStatus, status};
 
 // The node that a finished search shows: one of the tree in a slot.
-#[derive(Drop)]
+#[derive(Clone, Copy)]
 pub enum Shown {
     Nothing,
     Node { slot: usize, node: u32 },
 }
 
 // How a search stands. A strange record is invalid.
-#[derive(Drop)]
+#[derive(Clone, Copy)]
 pub enum Standing {
     Invalid,
     Unfinished,

@@ -1,6 +1,9 @@
 // The types that cross crates. What they mean stands in specs/: a definition gives each refusal and each status
 // document 01's number and values, and the promises of the calls use that definition.
 // Ported from open-rmf/mapf (mapf/src: algorithm/dijkstra/forward.rs) and changed; Apache License 2.0, see NOTICE.
+
+#![tactic(auto)]
+
 pub mod limits;
 
 ghost use Rattle.std.specs.Prelude.{◌≡◌, ◌<◌};
@@ -11,7 +14,7 @@ ghost use Rattle.model.specs.Search.{empty_search, with_entry, with_goal, best_i
 use crate::limits::MAX_ENTRIES;
 
 // Returned instead of an answer; specs/Answers.antt numbers them.
-#[derive(Drop)]
+#[derive(Clone, Copy)]
 pub enum Refusal {
     Malformed,
     OutOfOrder,
@@ -44,35 +47,35 @@ pub fn number(refusal: Refusal) -> u32
 }
 
 // The Rust's `Option<usize>` of `last_known_closed_len`.
-#[derive(Drop)]
+#[derive(Clone, Copy)]
 pub enum KnownLen {
     Never,
     Len(u32),
 }
 
 // A tree's solution, as the number of the node that closed a goal. The Rust keeps the whole path.
-#[derive(Drop)]
+#[derive(Clone, Copy)]
 pub enum Solution {
     Unsolved,
     At(u32),
 }
 
 // The best solution: the entry that found it, and its node. The Rust keeps the entry and the cost.
-#[derive(Drop)]
+#[derive(Clone, Copy)]
 pub enum BestSolution {
     NoBest,
     Best { entry: u32, node: u32 },
 }
 
 // The Rust's `Option<Cost>` of `cost_bound`.
-#[derive(Drop)]
+#[derive(Clone, Copy)]
 pub enum CostBound {
     Unbounded,
     Bound(u64),
 }
 
 // One entry of a search: the slot of its tree, and what the search knows of that tree.
-#[derive(Drop)]
+#[derive(Clone, Copy)]
 pub struct TreeMemory {
     pub tree: u32,
     pub last_known_closed_len: KnownLen,
@@ -80,7 +83,7 @@ pub struct TreeMemory {
 }
 
 // The Rust's `Memory`; 01 calls it the search record. Its numbers have 32 bits each, for it goes by value.
-#[derive(Drop)]
+#[derive(Clone, Copy)]
 pub struct Search {
     pub trees: [TreeMemory; MAX_ENTRIES],
     pub tree_count: u32,
@@ -196,7 +199,7 @@ fn best_after(best: BestSolution, entry: u32, node: u32, is_best: bool) -> BestS
     best
 }
 
-#[derive(Drop)]
+#[derive(Clone, Copy)]
 pub enum SearchStatus {
     Incomplete,
     Solved { total_cost: u32, moves: usize },
@@ -204,38 +207,38 @@ pub enum SearchStatus {
 }
 
 // The answers of the calls. A refusal comes with a line, 0 where no line of a text is at fault.
-#[derive(Drop)]
+#[derive(Clone, Copy)]
 pub enum OpenAnswer {
     Opened,
     Refused { refusal: Refusal, line: usize },
 }
 
-#[derive(Drop)]
+#[derive(Clone, Copy)]
 pub enum InitializeAnswer {
     Initialized,
     Refused { refusal: Refusal, line: usize },
 }
 
-#[derive(Drop)]
+#[derive(Clone, Copy)]
 pub enum StepAnswer {
     Status(SearchStatus),
     Refused { refusal: Refusal, line: usize },
 }
 
-#[derive(Drop)]
+#[derive(Clone, Copy)]
 pub enum RetraceAnswer {
     Moves(usize),
     Refused { refusal: Refusal, line: usize },
 }
 
 // A search goes in by value and comes back beside the answer.
-#[derive(Drop)]
+#[derive(Clone, Copy)]
 pub struct SearchOpened {
     pub answer: InitializeAnswer,
     pub search: Search,
 }
 
-#[derive(Drop)]
+#[derive(Clone, Copy)]
 pub struct Stepped {
     pub answer: StepAnswer,
     pub tickets: usize,
@@ -243,7 +246,7 @@ pub struct Stepped {
 }
 
 // What some steps came to: the answer of the last, how many waited, the tickets of all, and the search.
-#[derive(Drop)]
+#[derive(Clone, Copy)]
 pub struct StepsTaken {
     pub answer: StepAnswer,
     pub waits: usize,
@@ -252,7 +255,7 @@ pub struct StepsTaken {
 }
 
 // What a whole search came to: its answer, whether its path was written, how many steps waited, the tickets of all, and the record.
-#[derive(Drop)]
+#[derive(Clone, Copy)]
 pub struct Planned {
     pub answer: StepAnswer,
     pub has_path: bool,

@@ -1,5 +1,8 @@
 // New trees of a cache, for the roots of a search: the Rust's loop over the starts in `initialize`.
 // Ported from open-rmf/mapf (mapf/src: algorithm/dijkstra/forward.rs, algorithm/dijkstra/backward.rs) and changed; Apache License 2.0, see NOTICE.
+
+#![tactic(auto)]
+
 ghost use Rattle.std.specs.Prelude.{◌≡◌, length};
 ghost use Rattle.std.proofs.lemmas.List.Edits.{sets};
 ghost use Rattle.layout.specs.Layout.{NodeFits};
@@ -14,7 +17,7 @@ use model::limits::{MAX_ENTRIES, MAX_VERTICES};
 use tree::Node;
 
 // The entries of a search, and the start vertices of the trees that are not there yet.
-#[derive(Drop)]
+#[derive(Clone, Copy)]
 pub struct TreePlan {
     pub search: Search,
     pub starts: [u32; MAX_ENTRIES],

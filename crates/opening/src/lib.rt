@@ -1,5 +1,8 @@
 // A search opened on words that are known to be sound: the Rust's `initialize`. Its callers check the words, or know them sound by a theorem.
 // Ported from open-rmf/mapf (mapf/src: algorithm/dijkstra/forward.rs, algorithm/dijkstra/backward.rs) and changed; Apache License 2.0, see NOTICE.
+
+#![tactic(auto)]
+
 ghost use Rattle.std.specs.Prelude.{◌≡◌};
 ghost use Rattle.sound.specs.Facts.{SoundWords};
 ghost use Rattle.opening.specs.Initialize.{Initializes, not_opened_by, CanOpenSearch, OpensSearch, CanTakeGoals, with_goals};

@@ -7,7 +7,7 @@ use layout::wide;
 use put_text::{put_byte, put_bytes, put_field, put_word};
 
 // The answer of an order: its total and path, none, the number of a refusal, or that its search still waits.
-#[derive(Drop)]
+#[derive(Clone, Copy)]
 pub enum Answer {
     Solved(u32),
     Impossible,
@@ -16,7 +16,7 @@ pub enum Answer {
 }
 
 // What is said of an order.
-#[derive(Drop)]
+#[derive(Clone, Copy)]
 pub struct Line {
     pub order: usize,
     pub answer: Answer,

@@ -1,3 +1,6 @@
 // The order sheet, on bytes: an order's line read, an answer's line written.
+
+#![tactic(auto)]
+
 pub mod answers;
 pub mod orders;

@@ -11,14 +11,14 @@ pub const MAX_LIST: usize = 1 + MAX_ENTRIES;
 
 // The first 65 numbers of a list, and how many of them there are. A longer list is over 01's limit of 64 as well. Of a field that is
 // no list nothing is kept.
-#[derive(Drop)]
+#[derive(Clone, Copy)]
 pub struct Numbers {
     pub legal: bool,
     pub numbers: [u32; MAX_LIST],
     pub count: usize,
 }
 
-#[derive(Drop)]
+#[derive(Clone, Copy)]
 pub enum Form {
     Forward,
     Backward,
@@ -26,7 +26,7 @@ pub enum Form {
 }
 
 // Of a line that is no order nothing is kept.
-#[derive(Drop)]
+#[derive(Clone, Copy)]
 pub struct Order {
     pub form: Form,
     pub starts: Numbers,

@@ -1,4 +1,7 @@
 // One order: its search is opened on the cache of its direction and stepped until it answers, and its line is put.
+
+#![tactic(auto)]
+
 ghost use Rattle.std.specs.Prelude.{◌≡◌};
 ghost use Rattle.model.specs.Answers.{step_reply};
 ghost use Rattle.sound.specs.Facts.{SoundWords};

@@ -6,7 +6,7 @@ use crate::{MAX_BYTES, run};
 // One byte more than a file may have.
 const SPACE: usize = MAX_BYTES + 1;
 
-#[derive(Drop)]
+#[derive(Clone, Copy)]
 pub enum Bytes {
     Count(usize),
     Failed,

@@ -1,5 +1,8 @@
 // An order sheet: a chart's caches in both directions, and a line on standard output for each order. Its bytes are those of the
 // definition `sheet_text`; they are put part by part into bytes lent, and written.
+
+#![tactic(auto)]
+
 pub mod files;
 
 ghost use Rattle.std.specs.Prelude.{◌≡◌, ◌≤◌, length};
@@ -27,7 +30,7 @@ const LINE: usize = 24576;
 const SPACE: usize = 65536;
 
 // A part of a sheet: its bytes, and where the next order stands and which number it has.
-#[derive(Drop)]
+#[derive(Clone, Copy)]
 pub struct Part {
     pub bytes: usize,
     pub at: usize,

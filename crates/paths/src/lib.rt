@@ -1,5 +1,8 @@
 // The path from a tree's root to a node: the Rust's `Path`, of which `backtrack` is ported.
 // Ported from open-rmf/mapf (mapf/src: algorithm/path.rs) and changed; Apache License 2.0, see NOTICE.
+
+#![tactic(auto)]
+
 ghost use Rattle.std.specs.Prelude.{length};
 ghost use Rattle.layout.specs.Layout.{direction_in};
 ghost use Rattle.paths.specs.Path.{Hung, MovesIs, CanBacktrack, Backtracks};

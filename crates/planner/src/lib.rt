@@ -1,4 +1,7 @@
 // Many steps of a search at once, or a whole one, for a controller that owns its words between picks. The Rust's planner is not followed.
+
+#![tactic(auto)]
+
 ghost use Rattle.std.specs.Prelude.{◌≡◌};
 ghost use Rattle.model.specs.Answers.{is_answered, retrace_reply};
 ghost use Rattle.planner.specs.Solve.{Solving};

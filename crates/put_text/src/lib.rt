@@ -1,5 +1,8 @@
 // Text put into bytes that are lent: bytes, numbers and the lines of a graph, each from a place on. Every function answers where its
 // text ends, and leaves all other bytes as they were.
+
+#![tactic(auto)]
+
 ghost use Rattle.std.specs.Prelude.{◌≡◌, [], ◌∷◌, ◌++◌, ◌+◌, ◌<◌, ◌≤◌, length};
 ghost use Rattle.text.specs.Bytes.{comma, digit0};
 ghost use Rattle.text.specs.Print.{decimal, vertex_text, edge_text};
@@ -89,7 +92,7 @@ pub fn put_edge(out: &mut [u8], at: usize, from: usize, to: usize, cost: usize) 
 }
 
 // The digits of a number stand at the end of ten bytes.
-#[derive(Drop)]
+#[derive(Clone, Copy)]
 struct Digits {
     bytes: [u8; 10],
     from: usize,

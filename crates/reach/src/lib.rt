@@ -1,5 +1,8 @@
 // Which vertices some path leads to, from any vertex with an initial cost: for a drawing that sets the others apart. Each vertex is
 // listed when it is marked and taken from the list once, when the ends of its edges are marked, so each edge is walked once.
+
+#![tactic(auto)]
+
 ghost use Rattle.std.specs.Prelude.{◌≡◌, ◌<◌, replicate};
 ghost use Rattle.model.specs.Limits.{vertex_limit};
 ghost use Rattle.layout.specs.Layout.{vertices_in, edges_in};

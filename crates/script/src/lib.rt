@@ -1,5 +1,8 @@
 // Lists of calls from a script: each line of standard input is a call of the library, or a look at what the calls left, and
 // prints one line. A line that has none of the forms prints `?` and is passed over.
+
+#![tactic(auto)]
+
 mod calls;
 mod state;
 mod sum;

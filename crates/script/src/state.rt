@@ -9,7 +9,7 @@ pub const RECORDS: usize = 8;
 pub const WORDS: usize = 16384;
 
 // The length of the chart text, how many words of each direction are lent, and the search records.
-#[derive(Drop)]
+#[derive(Clone, Copy)]
 pub struct State {
     pub chart: usize,
     pub lent: [usize; 2],

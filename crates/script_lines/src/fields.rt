@@ -13,7 +13,7 @@ const NO_SIDE: usize = 2;
 const MAX_NUMBERS: usize = 128;
 
 // The direction, which is no number, is the first of the fields.
-#[derive(Drop)]
+#[derive(Clone, Copy)]
 pub struct Call {
     pub name: Name,
     pub side: usize,

@@ -4,7 +4,7 @@
 pub const MAX_BYTES: usize = 262144;
 
 // Where the next byte stands in the buffer, where its bytes end, and how often it may still be filled.
-#[derive(Drop)]
+#[derive(Clone, Copy)]
 pub struct Input {
     pub at: usize,
     pub end: usize,
@@ -12,7 +12,7 @@ pub struct Input {
 }
 
 // One byte, unless the input ended.
-#[derive(Drop)]
+#[derive(Clone, Copy)]
 pub struct Taken {
     pub input: Input,
     pub ended: bool,
@@ -20,7 +20,7 @@ pub struct Taken {
 }
 
 // A line, without its LF, or the end of the input.
-#[derive(Drop)]
+#[derive(Clone, Copy)]
 pub struct Line {
     pub input: Input,
     pub length: usize,
@@ -28,7 +28,7 @@ pub struct Line {
 }
 
 // Some lines, with each LF, and whether there was room for all.
-#[derive(Drop)]
+#[derive(Clone, Copy)]
 pub struct Lines {
     pub input: Input,
     pub length: usize,

@@ -1,4 +1,7 @@
 // The lines of a script as far as they need no words: read, what they say of the search records done, and answers printed.
+
+#![tactic(auto)]
+
 pub mod fields;
 pub mod input;
 pub mod names;

@@ -1,6 +1,6 @@
 // The names that a line begins with.
 
-#[derive(Drop)]
+#[derive(Clone, Copy)]
 pub enum Name {
     Chart,
     Past,

@@ -1,4 +1,7 @@
 // A search record in words that a board lends, for callers that have no struct of its shape: one encoding, read and written here alone.
+
+#![tactic(auto)]
+
 ghost use Rattle.std.specs.Prelude.{◌≡◌, [], ◌∷◌, map, ◌+◌, ◌≤◌, length, take, drop};
 ghost use Rattle.std.proofs.lemmas.List.Edits.{sets};
 ghost use Rattle.model.specs.Limits.{list_limit};

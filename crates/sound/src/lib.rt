@@ -1,6 +1,9 @@
 // Whether the words of a cache are sound, as every call asks before it does anything else. Any words may be handed in. The
 // definition stands in `layout`, specs/Sound.antt; header, graph and trees come in its order, and each function answers by
 // clauses of it.
+
+#![tactic(auto)]
+
 ghost use Rattle.std.specs.Prelude.{◌≡◌, true, false, ◌+◌, ◌<◌, ◌≤◌, length, replicate};
 ghost use Rattle.model.specs.Limits.{vertex_limit};
 ghost use Rattle.model.specs.Lists.{allb, upto};

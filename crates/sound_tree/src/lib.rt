@@ -1,4 +1,7 @@
 // Whether one tree's words are sound. `words` has the whole cache, `tree` the part of it that is the tree's slot.
+
+#![tactic(auto)]
+
 ghost use Rattle.std.specs.Prelude.{◌≡◌, false, ◌+◌, ◌<◌, ◌≤◌, length, get_or, replicate};
 ghost use Rattle.model.specs.Limits.{vertex_limit, edge_limit};
 ghost use Rattle.model.specs.Lists.{allb, upto};

@@ -1,4 +1,7 @@
 // The order sheets of many charts: for each, a line `# NAME` and its sheet. The files are in the folder NAME.
+
+#![tactic(auto)]
+
 ghost use Rattle.std.specs.Prelude.{◌+◌, ◌≤◌, length};
 
 use put_text::put_bytes;

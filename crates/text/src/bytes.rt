@@ -8,7 +8,7 @@ pub const DIGIT_0: usize = 48;
 const DIGIT_9: usize = 57;
 
 // A field read as a number, which has at most 10 digits and so fits 64 bits.
-#[derive(Drop)]
+#[derive(Clone, Copy)]
 pub enum Number {
     Of(usize),
     Illegal,

@@ -10,19 +10,19 @@ use model::Refusal;
 use model::limits::{MAX_COST, MAX_EDGES, MAX_VERTICES};
 
 // Vertices and edges.
-#[derive(Drop)]
+#[derive(Clone, Copy)]
 pub struct Counts {
     pub vertices: usize,
     pub edges: usize,
 }
 
-#[derive(Drop)]
+#[derive(Clone, Copy)]
 pub enum Check {
     Passed,
     Fault(Refusal),
 }
 
-#[derive(Drop)]
+#[derive(Clone, Copy)]
 pub enum Judged {
     Sizes(Counts),
     Fault { refusal: Refusal, line: usize },

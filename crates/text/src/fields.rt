@@ -15,14 +15,14 @@ pub const HYPHEN: usize = 10000000000;
 pub const OTHER: usize = 10000000001;
 
 // How many fields there are, and what the first five say.
-#[derive(Drop)]
+#[derive(Clone, Copy)]
 pub struct Fields {
     pub count: usize,
     pub values: [usize; MAX_FIELDS],
 }
 
 // A line's letter and the fields behind it. The letter is 0 where a line does not begin with one.
-#[derive(Drop)]
+#[derive(Clone, Copy)]
 pub struct Lettered {
     pub letter: u8,
     pub fields: Fields,

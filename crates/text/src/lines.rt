@@ -4,13 +4,13 @@ ghost use Rattle.text.specs.Lines.{cost_of, vertex_of, edge_of, line_of};
 
 use crate::fields::{Fields, HYPHEN, MAX_NUMBER, read_lettered};
 
-#[derive(Drop)]
+#[derive(Clone, Copy)]
 pub enum InitialCost {
     Absent,
     Cost(usize),
 }
 
-#[derive(Drop)]
+#[derive(Clone, Copy)]
 pub enum Line {
     Vertex { number: usize, initial: InitialCost },
     Edge { from: usize, to: usize, cost: usize },

@@ -1,5 +1,8 @@
 // One tree's words, handed on as a part of the cache's: the Rust's `Tree`. `edges` says where the queue and the closed words start.
 // Ported from open-rmf/mapf (mapf/src: algorithm/tree.rs) and changed; Apache License 2.0, see NOTICE.
+
+#![tactic(auto)]
+
 pub mod partial_keyed_closed_set;
 
 ghost use Rattle.std.specs.Prelude.{◌≡◌, ◌+◌, ◌<◌, length, set};
@@ -13,7 +16,7 @@ use layout::wide;
 use queue::Popped;
 
 // A node's words.
-#[derive(Drop)]
+#[derive(Clone, Copy)]
 pub struct Node {
     pub vertex: u32,
     pub cost: u32,

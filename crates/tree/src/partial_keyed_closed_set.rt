@@ -8,13 +8,13 @@ ghost use Rattle.tree.specs.Tree.{Formed, HasVertex, HasGoals, HasSolution, stat
 use layout::wide;
 use model::Solution;
 
-#[derive(Drop)]
+#[derive(Clone, Copy)]
 pub enum ClosedStatus {
     Open,
     Closed(u32),
 }
 
-#[derive(Drop)]
+#[derive(Clone, Copy)]
 pub enum CloseResult {
     Accepted,
     Rejected,

@@ -1,6 +1,9 @@
 // The calls on words that are known to be sound: the Rust's, which checks nothing. Their callers check the words, once for one call
 // or once for many, or know them sound by a theorem.
 // Ported from open-rmf/mapf (mapf/src: algorithm/dijkstra/forward.rs, algorithm/dijkstra/backward.rs) and changed; Apache License 2.0, see NOTICE.
+
+#![tactic(auto)]
+
 pub mod shown;
 
 ghost use Rattle.std.specs.Prelude.{◌≡◌};
@@ -99,7 +102,7 @@ fn last_answer(words: &[u32], best: BestSolution, holder: TreeMemory) -> StepAns
 }
 
 // What a whole search came to: its answer, how many steps waited, the tickets of all, the node that it shows, and its record.
-#[derive(Drop)]
+#[derive(Clone, Copy)]
 pub struct SearchRun {
     pub answer: StepAnswer,
     pub waits: usize,
