@@ -13,4 +13,4 @@ use Rattle.model.specs.contracts.TreeMemory as memory-type
 
 pub arrays-long : (s : Search) (vs : List Val) → Is (row search-type.the_type) s vs → (length s.trees ≡ 64) × (length s.goal_keys ≡ 64)
 arrays-long s vs g =
-    (sym (length-map s.trees (field memory-type.the_type).into) ∙ g.1.1.0.1.0.1, sym (length-map s.goal_keys u32-field.into) ∙ g.1.1.1.1.0.1.0.1)
+    (g.1.1.0.1.0.1, g.1.1.1.1.0.1.0.1)

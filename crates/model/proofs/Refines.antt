@@ -18,7 +18,7 @@ use Rattle.model.specs.declared.KnownLen.TheVariants.{Never, Len}
 use Rattle.model.specs.declared.Solution.{Solution}
 use Rattle.model.specs.declared.Solution.TheVariants.{Unsolved, At}
 use Rattle.model.specs.declared.TreeMemory.{TreeMemory}
-use Rattle.model.specs.Graph.{Domain, Direction, forward, backward, absent, vertex_count, to, choices, initial_cost}
+use Rattle.model.specs.Graph.{Domain, Direction, forward, backward, absent, vertex_count, cost, to, choices, initial_cost}
 use Rattle.model.specs.Worth.{solution_cost_of}
 use Rattle.model.specs.Tree.{Tree, Node, node, closed_at, evaluation_of, closed_within, push_if, child, new_tree, root_node, push_all}
 use Rattle.model.specs.Tree as trees
@@ -133,7 +133,7 @@ pub choices-is : (d : Domain) (n : ℕ) (p : Node) (t : Tree) (ls : List ℕ) �
 unfolding push_choices push_all
 choices-is d n p t [] = refl
 choices-is d n p t (l ∷ ls) =
-    choices-is d n p _ ls
+    choices-is d n p (push_node t (record { vertex = to d.graph l; cost = p.cost + cost (text_graph d) l; parent = n; edge = l })) ls
     ∙ ap (λ (u : Tree). push_all d n p u ls)
     (ap (λ (c : ℕ). push_node t (record { vertex = to d.graph l; cost = p.cost + c; parent = n; edge = l })) (domain-cost d.direction d.graph l) ∙ push-is t (child d n p l))
 
