@@ -15,8 +15,21 @@ HERE = os.path.dirname(os.path.realpath(__file__))
 SPLIT = re.compile(r"([\s(){};,\"«».`\[\]]+)")
 
 
-def respelled(text, table):
-    return "".join(table.get(word, word) for word in SPLIT.split(text))
+# A lemma that gives its name to a definition; a function of src/ may have that name too, and keeps it.
+LEMMA = re.compile(r"[a-z_]+")
+
+
+def respelled(text, table, antt):
+    words = SPLIT.split(text)
+    for i, word in enumerate(words):
+        if LEMMA.fullmatch(word):
+            # in antt a dot beside such a word makes it a path to the function
+            path = words[i - 1].endswith(".") if i else False
+            path = path or (i + 1 < len(words) and words[i + 1].startswith("."))
+            if not antt or path:
+                continue
+        words[i] = table.get(word, word)
+    return "".join(words)
 
 
 def files(root):
@@ -36,7 +49,7 @@ def main(root="."):
     for path in files(root):
         with open(path, encoding="utf-8") as it:
             old = it.read()
-        new = respelled(old, table)
+        new = respelled(old, table, path.endswith(".antt"))
         if new != old:
             with open(path, "w", encoding="utf-8") as it:
                 it.write(new)

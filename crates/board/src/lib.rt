@@ -107,7 +107,7 @@ pub extern "C" fn perillabeam_step(
     let told = stepped.answer;
     let next = stepped.search;
     keep(told, next, search);
-    *answer = answer_numbers(told, step_waits_lem(told), stepped.tickets, false);
+    *answer = answer_numbers(told, step_waits(told), stepped.tickets, false);
     answer_number(told)
 }
 
@@ -230,7 +230,7 @@ fn answer_number(told: StepAnswer) -> u32
 }
 
 // Whether the step waited.
-fn step_waits_lem(told: StepAnswer) -> usize
+fn step_waits(told: StepAnswer) -> usize
     ensures { result ≡ step_waits (step_reply told) }
 {
     match told {

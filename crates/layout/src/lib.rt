@@ -90,7 +90,7 @@ pub fn slots_at(vertices: usize, edges: usize) -> usize
 // Within a tree's words: the nodes, the queue and the closed words.
 const NODES_AT: usize = 3;
 
-pub fn node_at_lem(node: usize) -> usize
+pub fn node_at(node: usize) -> usize
     requires { node_at node < 2 ^ 64 }
     ensures { result ≡ node_at node }
 {
@@ -101,10 +101,10 @@ pub fn queue_at(edges: usize) -> usize
     requires { edges ≤ edge_limit }
     ensures { result ≡ queue_at edges }
 {
-    node_at_lem(1 + edges)
+    node_at(1 + edges)
 }
 
-pub fn closed_at_lem(edges: usize) -> usize
+pub fn closed_at(edges: usize) -> usize
     requires { edges ≤ edge_limit }
     ensures { result ≡ closed_words_at edges }
 {
@@ -115,7 +115,7 @@ pub fn tree_words(vertices: usize, edges: usize) -> usize
     requires { Sized vertices edges }
     ensures { result ≡ tree_words vertices edges }
 {
-    closed_at_lem(edges) + vertices
+    closed_at(edges) + vertices
 }
 
 pub fn slot_at(vertices: usize, edges: usize, slot: usize) -> usize
@@ -194,7 +194,7 @@ fn node_word(tree: &[u32], node: usize, place: usize) -> u32
     requires { NodeWord (length tree.now) node place }
     ensures { result ≡ get_or tree.now (node_at node + place) 0 }
 {
-    tree[node_at_lem(node) + place]
+    tree[node_at(node) + place]
 }
 
 // What a node says. Its vertex is read of the cache's words and the tree's, the rest of the tree's own words.
