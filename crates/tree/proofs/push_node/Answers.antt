@@ -1,3 +1,4 @@
+use Rattle.tree.proofs.push_node.Goals.{in-Open, in-Closed+else-evaluation-evaluation_of}
 use Rattle.std.proofs.lemmas.Grind.{common_steps}
 use Rattle.std.proofs.lemmas.Bool.Decides.{nat_tests}
 use Rattle.std.proofs.Common.{arith}
@@ -16,4 +17,8 @@ returns-then-evaluation-evaluation_of c = search (rules, tests, closer-within, p
 
 -- src/lib.rt:28:1
 pub returns : goal.returns
-returns c = grind (arith, common_steps, nat_tests, closer-within, push-open, push-above, push-within)
+returns c =
+    elim c.match-status.branch [
+        in-Open w ↦ search (rules, push-open)
+      | in-Closed+else-evaluation-evaluation_of w ↦ search (rules, push-above)
+    ]

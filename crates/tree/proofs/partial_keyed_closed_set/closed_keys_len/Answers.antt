@@ -1,3 +1,4 @@
+use Rattle.tree.proofs.partial_keyed_closed_set.closed_keys_len.Goals.{then-tree-place-eq0, else-tree-place-eq0}
 use Rattle.std.proofs.lemmas.Grind.{common_steps}
 use Rattle.std.proofs.lemmas.Bool.Decides.{nat_tests}
 use Rattle.std.proofs.Common.{arith}
@@ -15,7 +16,12 @@ loop-place-init c = search (rules, tests, counted_none, Counted, counted-all, co
 
 -- src/partial_keyed_closed_set.rt:57:5
 pub loop-place-preserved : goal.loop-place-preserved
-loop-place-preserved c = grind (arith, common_steps, nat_tests, counted_none, Counted, counted-all, counted-closed, counted-open)
+loop-place-preserved c =
+    let turn = c.loop-place.invariant in
+    elim c.if-tree-place-eq0.branch [
+        then-tree-place-eq0 w ↦ (counted-open turn c.loop-place-test.true w.if-tree-place-eq0.true w.unclosed-is)
+      | else-tree-place-eq0 w ↦ (counted-closed turn c.loop-place-test.true w.if-tree-place-eq0.false w.unclosed-is)
+    ]
 
 -- src/partial_keyed_closed_set.rt:50:1
 pub returns : goal.returns
