@@ -8,7 +8,7 @@ use mathlib.Core.List.{List}
 use Prim.Native.Nat.{ℕ}
 use Rattle.model.specs.declared.Search.{Search}
 use Rattle.model.specs.Answers.{answered}
-use Rattle.model.specs.Graph.{Domain, Accepted, domain}
+use Rattle.model.specs.Graph.{Domain, Accepted}
 use Rattle.model.specs.Search.{plant_all, roots_of, goals_of, new_search}
 use Rattle.model.specs.Valid.{valid}
 use Rattle.model.specs.Calls.{Cache, SoundCache, opened, with_trees, AfterStep, first_fault, initialize_faults, initialize_by, initialize, step_if, step}

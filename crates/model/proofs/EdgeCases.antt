@@ -2,7 +2,7 @@
 -- would give another answer.
 -- Assumes nothing.
 use mathlib.Core.Path.{◌≡◌, refl}
-use mathlib.Core.List.{List, [], ◌∷◌}
+use mathlib.Core.List.{[], ◌∷◌}
 use Rattle.model.specs.Answers.{answered, solved}
 use Rattle.model.specs.Graph.{Graph, forward, backward, absent}
 use Rattle.model.specs.Calls.{opened}

@@ -12,7 +12,7 @@ use lib.Dec.{eqb, eqb-suc-zero}
 use lib.ListN.{length, set, length-append}
 use Rattle.model.specs.declared.CostBound.{CostBound}
 use Rattle.model.specs.Lists.{mem}
-use Rattle.model.specs.Graph.{Domain, Accepted, cost}
+use Rattle.model.specs.Graph.{Domain, Accepted}
 use Rattle.model.specs.Tree.{Tree, Node, node, closed_at, evaluation, least, least_of, popped, expanded, Going, on, found, over, Growth, above, going_on, taken, ticket_of, ticket, grow}
 use Rattle.model.specs.Sound.{Sound, Hangs}
 use Rattle.model.specs.Search.{closed_count, count_if}

@@ -3,7 +3,7 @@
 use Rattle.std.specs.Prelude.{Bool, true, false, ℕ, zero, suc, ◌+◌}
 use Rattle.model.specs.declared.Search.{Search}
 use Rattle.model.specs.Answers.{Reply, answered, refused, Status, waiting, solved, no_path}
-use Rattle.model.specs.Calls.{Cache, AfterStep, step}
+use Rattle.model.specs.Calls.{Cache, step}
 
 abbrev pub is_waiting : Reply Status → Bool
 is_waiting (answered waiting) = true

@@ -1,8 +1,7 @@
 -- Texts by computation: what is read, and the first fault of each kind with its line.
 -- Assumes nothing.
 use mathlib.Core.Path.{◌≡◌, refl}
-use mathlib.Core.List.{List, [], ◌∷◌}
-use Prim.Native.Nat.{ℕ}
+use mathlib.Core.List.{[], ◌∷◌}
 use Prim.Native.String as string
 use Rattle.model.specs.Answers.{Reply, answered, refused}
 use Rattle.model.specs.Graph.{Graph, absent}

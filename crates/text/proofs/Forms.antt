@@ -3,9 +3,9 @@
 use mathlib.Core.Path.{◌≡◌, refl, sym, ap, ◌∙◌}
 use mathlib.Core.Bool.{Bool, true, false, ◌&&◌, cond}
 use mathlib.Core.List.{List, [], ◌∷◌}
-use Prim.Native.Nat.{ℕ, suc, ◌+◌, ◌<◌, ◌≤◌}
+use Prim.Native.Nat.{ℕ, ◌+◌, ◌<◌, ◌≤◌}
 use native.Mathlib.Omega.{arith}
-use borrow.Author.Tests.{eqb-true, eq-eqb, ne_eqb, le-leb}
+use borrow.Author.Tests.{eqb-true, ne_eqb, le-leb}
 use lib.Dec.{eqb, leb}
 use lib.ListN.{length}
 use Rattle.text.specs.declared.bytes.Number.{Number}
@@ -14,7 +14,7 @@ use Rattle.text.specs.declared.fields.Fields.{Fields}
 use Rattle.text.specs.declared.lines.InitialCost.TheVariants.{Absent, Cost}
 use Rattle.text.specs.declared.lines.Line.{Line}
 use Rattle.text.specs.declared.lines.Line.TheVariants.{Vertex, Edge, Illegal}
-use Rattle.text.specs.Bytes.{comma, hyphen, letter_l, letter_m, parted, parting, is_only, number_of}
+use Rattle.text.specs.Bytes.{hyphen, letter_l, letter_m, parted, parting, is_only, number_of}
 use Rattle.text.specs.Fields.{value_by, value_of, no_fields, with_field, fields_from, unlettered}
 use Rattle.text.specs.Lines.{cost_of, vertex_of, edge_of, lettered_line, line_of}
 use Rattle.text.proofs.Parted.{parted-some}

@@ -1,11 +1,10 @@
 -- The texts of lines: a legal line's text is read as it, and no other text is; the same of the lines of a text.
 -- Assumes nothing.
 use mathlib.Core.Path.{◌≡◌, refl, sym, ap, ap₂, ◌∙◌}
-use mathlib.Core.Bool.{Bool, true, false, true≢false}
+use mathlib.Core.Bool.{Bool, true, false}
 use mathlib.Core.List.{List, [], ◌∷◌, ◌++◌}
 use Prim.Native.Nat.{ℕ, ◌<◌}
 use native.Mathlib.Omega.{arith}
-use borrow.Author.Tests.{eqb-true, ne_eqb}
 use Rattle.text.specs.declared.bytes.Number.{Number}
 use Rattle.text.specs.declared.bytes.Number.TheVariants as field
 use Rattle.text.specs.declared.lines.InitialCost.{InitialCost}

@@ -1,6 +1,6 @@
 -- The lines of a graph's text: `M,number,start cost` and `L,from,to,picks`. 01 calls the text a chart.
 -- Assumes nothing.
-use Rattle.std.specs.Prelude.{Bool, true, false, cond, List, [], ◌∷◌, ℕ, eqb}
+use Rattle.std.specs.Prelude.{cond, List, [], ◌∷◌, ℕ, eqb}
 use Rattle.model.specs.Lists.{allb}
 use Rattle.text.specs.declared.fields.Fields.{Fields}
 use Rattle.text.specs.declared.fields.Lettered.{Lettered}

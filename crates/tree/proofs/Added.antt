@@ -1,17 +1,17 @@
 -- A node more: its words are written, it is counted, and its ticket is queued.
 -- Assumes nothing.
-use mathlib.Core.Path.{◌≡◌, refl, sym, ap, ap₂, ◌∙◌, subst}
+use mathlib.Core.Path.{◌≡◌, refl, sym, ap, ap₂, ◌∙◌}
 use mathlib.Core.Logic.{◌≢◌}
 use mathlib.Core.Bool.{Bool, false}
 use mathlib.Core.List.{List, [], ◌∷◌, ◌++◌}
-use Prim.Native.Nat.{ℕ, zero, suc, ◌+◌, ◌-◌, ◌*◌, ◌/◌, ◌<◌, ◌≤◌}
+use Prim.Native.Nat.{ℕ, zero, suc, ◌+◌, ◌-◌, ◌/◌, ◌<◌, ◌≤◌}
 use native.Mathlib.Omega.{arith}
 use native.Mathlib.Decide.{ℕ_discrete, dec_lt}
 use lib.Dec.{leb}
 use lib.ListN.{length, get_or, set, length-set, length-append, get_or-append}
 use lib.Seq.{sets, length-sets, get_or-set_same, get_or-set_other, get_or_at, ext_get_or}
 use borrow.Author.Tests.{le-leb, lt-leb}
-use Rattle.model.specs.Tree.{Node, no_node, closed_at, evaluation_of, closed_within, appended, push_if, push_node}
+use Rattle.model.specs.Tree.{Node, no_node, evaluation_of, closed_within, appended, push_if, push_node}
 use Rattle.model.proofs.Worth.{evaluation-same}
 use Rattle.layout.specs.Layout.{start_at, used_at, queued_at, queued_in, used_in, node_size, node_at, NodeFits, queue_at, queue_word_in, closed_words_at, closed_word_in}
 use Rattle.layout.specs.Words.{node_words}

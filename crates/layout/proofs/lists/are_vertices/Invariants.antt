@@ -1,5 +1,5 @@
-use Rattle.std.proofs.Common.{length, ◌-◌, ◌≡◌, ℕ, ◌+◌, ◌*◌, ◌<◌, ◌≤◌}
-use Rattle.model.specs.Lists.{mem, all_below}
+use Rattle.std.proofs.Common.{length, ◌-◌, ◌≡◌}
+use Rattle.model.specs.Lists.{all_below}
 use lib.ListN.{drop}
 use Rattle.layout.proofs.lists.are_vertices.Given as goal
 

@@ -1,5 +1,4 @@
-use Rattle.std.proofs.Common.{rules, ◌≡◌, ℕ, ◌+◌, ◌-◌, ◌*◌, ◌<◌, ◌≤◌, length, ◌/◌, ◌%◌, Bool, true, false, nat_eq, nat_lt, List, [], ◌∷◌, ◌++◌, slice_index_or, slice_set, bit_and, bit_or, Fits, w8, w32, w64, Bor, MutBor}
-use Rattle.model.specs.Lists.{mem, all_below}
+use Rattle.std.proofs.Common.{rules}
 use Rattle.layout.proofs.Members.{mem-found, mem-next, mem-none}
 use Rattle.layout.proofs.lists.contains.Goals as goal
 

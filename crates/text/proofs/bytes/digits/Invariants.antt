@@ -1,5 +1,5 @@
-use Rattle.std.proofs.Common.{length, ◌-◌, ◌≡◌, ◌≤◌, min, ℕ, ◌+◌, ◌*◌, ◌<◌}
-use Rattle.text.specs.Bytes.{place, number_of, digits_from}
+use Rattle.std.proofs.Common.{length, ◌-◌, ◌≡◌, ◌≤◌, ◌<◌}
+use Rattle.text.specs.Bytes.{digits_from}
 use Prim.Native.Nat.{◌^◌}
 use lib.ListN.{drop}
 use Rattle.text.proofs.bytes.digits.Given as goal

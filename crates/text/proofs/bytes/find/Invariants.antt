@@ -1,5 +1,4 @@
-use Rattle.std.proofs.Common.{length, ◌-◌, ◌≡◌, ◌≤◌, min, ℕ, ◌+◌, ◌*◌, ◌<◌}
-use Rattle.text.specs.Bytes.{place, number_of, digits_from}
+use Rattle.std.proofs.Common.{length, ◌-◌, ◌≡◌, ◌≤◌, ℕ, ◌<◌}
 use lib.ListN.{get_or}
 use Rattle.text.proofs.bytes.find.Given as goal
 

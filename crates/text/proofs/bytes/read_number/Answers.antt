@@ -1,5 +1,4 @@
-use Rattle.std.proofs.Common.{rules, ◌≡◌, ◌≤◌, min, length, ℕ, ◌+◌, ◌-◌, ◌*◌, ◌<◌, ◌/◌, ◌%◌, Bool, true, false, nat_eq, nat_lt, List, [], ◌∷◌, ◌++◌, slice_index_or, slice_set, bit_and, bit_or, Fits, w8, w32, w64, Bor, MutBor}
-use Rattle.text.specs.Bytes.{place, number_of, digits_from}
+use Rattle.std.proofs.Common.{rules}
 use Rattle.text.proofs.Numbers.{number-empty, number-long, number-zero, number-one, number_more}
 use Rattle.text.proofs.bytes.read_number.Goals as goal
 

@@ -1,7 +1,4 @@
-use Rattle.std.proofs.Common.{length, ◌-◌, ◌≡◌, ◌+◌, ◌<◌, ◌≤◌, ℕ, ◌*◌}
-use Rattle.model.specs.Limits.{vertex_limit, edge_limit}
-use Rattle.model.specs.Calls.{first_fault}
-use Rattle.text.specs.Read.{line_faults, check_fault, counted, judge_text, judged_reply}
+use Rattle.std.proofs.Common.{length, ◌-◌}
 use Rattle.text.proofs.Judged.{Judging}
 use Rattle.text.proofs.counts.judge_text.Given as goal
 

@@ -1,5 +1,4 @@
-use Rattle.std.proofs.Common.{rules, ◌≡◌, ◌<◌, ℕ, ◌+◌, ◌-◌, ◌*◌, ◌≤◌, length, ◌/◌, ◌%◌, Bool, true, false, nat_eq, nat_lt, List, [], ◌∷◌, ◌++◌, slice_index_or, slice_set, bit_and, bit_or, Fits, w8, w32, w64, Bor, MutBor}
-use Rattle.text.specs.Fields.{value_of, no_fields, with_field, fields_of, unlettered, lettered_of}
+use Rattle.std.proofs.Common.{rules}
 use Rattle.text.proofs.OneByte.{only_one, only-other}
 use Rattle.text.proofs.FieldsRead.{value-hyphen, value-number}
 use Rattle.text.proofs.fields.read_field.Goals as goal

@@ -1,5 +1,4 @@
-use Rattle.std.proofs.Common.{length, ◌+◌, ◌-◌, ◌≡◌, ◌<◌, ℕ, ◌*◌, ◌≤◌}
-use Rattle.text.specs.Fields.{value_of, no_fields, with_field, fields_of, unlettered, lettered_of}
+use Rattle.std.proofs.Common.{length, ◌+◌, ◌-◌}
 use Rattle.text.proofs.FieldsRead.{Reading}
 use Rattle.text.proofs.fields.read_fields.Given as goal
 

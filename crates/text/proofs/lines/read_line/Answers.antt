@@ -1,6 +1,6 @@
 use Rattle.std.proofs.Common.{tests}
-use Rattle.std.proofs.Common.{rules, ◌≡◌, ℕ, ◌+◌, ◌-◌, ◌*◌, ◌<◌, ◌≤◌, length, ◌/◌, ◌%◌, Bool, true, false, nat_eq, nat_lt, List, [], ◌∷◌, ◌++◌, slice_index_or, slice_set, bit_and, bit_or, Fits, w8, w32, w64, Bor, MutBor}
-use Rattle.text.specs.Lines.{cost_of, vertex_of, edge_of, line_of}
+use Rattle.std.proofs.Common.{rules}
+use Rattle.text.specs.Lines.{line_of}
 use Rattle.text.proofs.lines.read_line.Goals as goal
 
 -- src/lines.rt:27:9

@@ -1,7 +1,5 @@
-use Rattle.std.proofs.Common.{length, ◌-◌, ◌≡◌, ◌<◌, ℕ, ◌+◌, ◌*◌, ◌≤◌}
-use Rattle.layout.specs.Layout.{used_in, closed_word_in, NodeFits}
+use Rattle.std.proofs.Common.{length, ◌-◌}
 use Rattle.layout.specs.Read.{read_cache}
-use Rattle.tree.specs.Tree.{Formed, HasVertex, HasGoals, HasSolution, status_of, CanClose, CloseIs, ClosedCountIs, SolutionCostIs, CheapestIs, Considers}
 use Rattle.tree.proofs.Goals.{Cheapest}
 use Rattle.tree.proofs.partial_keyed_closed_set.cheapest_goal.Given as goal
 

@@ -1,7 +1,4 @@
-use Rattle.std.proofs.Common.{length, ◌-◌, ◌≡◌, ◌<◌, ℕ, ◌+◌, ◌*◌, ◌≤◌}
-use Rattle.layout.specs.Layout.{used_in, closed_word_in, NodeFits}
-use Rattle.layout.specs.Read.{read_cache}
-use Rattle.tree.specs.Tree.{Formed, HasVertex, HasGoals, HasSolution, status_of, CanClose, CloseIs, ClosedCountIs, SolutionCostIs, CheapestIs, Considers}
+use Rattle.std.proofs.Common.{length, ◌-◌}
 use Rattle.tree.proofs.Counted.{Counted}
 use Rattle.tree.proofs.partial_keyed_closed_set.closed_keys_len.Given as goal
 
