@@ -1,0 +1,12 @@
+use Rattle.std.proofs.Common.{length, ◌≡◌, ℕ, ◌+◌, ◌-◌, ◌*◌, ◌<◌, ◌≤◌}
+use Rattle.layout.specs.Layout.{direction_in}
+use Rattle.paths.specs.Path.{Hung, MovesIs, CanBacktrack, Backtracks}
+use Rattle.paths.proofs.Counted.{Counted}
+use Rattle.paths.proofs.moves.Given as goal
+
+abbrev pub invariant-loop-at : goal.invariant-loop-at
+invariant-loop-at l = Counted l.tree l.node l.moves l.at
+
+-- proposed from the loop's first test
+abbrev pub decreases-loop-at : goal.decreases-loop-at
+decreases-loop-at l = l.at
