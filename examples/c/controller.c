@@ -1,7 +1,7 @@
 /*
  * A controller of two heads. Their searches share one cache, and between two picks of the loom one of them makes a step.
  *
- *     cc -Iinclude -o controller examples/c/controller.c target/staticlib/libboard.a
+ *     cc -Iinclude -o controller examples/c/controller.c crates/board/out/libboard.a
  */
 #include "perillabeam.h"
 

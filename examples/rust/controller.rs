@@ -1,6 +1,6 @@
 //! A controller of two heads. Their searches share one cache, and between two picks of the loom one of them makes a step.
 //!
-//!     rustc --edition 2021 -O examples/rust/controller.rs -L native=target/staticlib -l static=board
+//!     rustc --edition 2021 -O examples/rust/controller.rs -L native=crates/board/out -l static=board
 mod perillabeam;
 
 use perillabeam::{cache_words, path_words, Answer, Direction, Record, Refused, Status};

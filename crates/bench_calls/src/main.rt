@@ -4,36 +4,39 @@
 
 #![tactic(auto)]
 
+ghost use Rattle.std.specs.Prelude.{◌≤◌, length};
+
 use layout::wide;
 use model::{OpenAnswer, Search};
 use order_lines::orders::{Numbers, read_list};
 use planner::{MAX_STEPS, solve};
+use std::env::Env;
 use text::bytes::{Number, least, read_number};
 
 const WORDS: usize = 65536;
 
-fn main() {
+fn main(rt: HostRuntime) {
     let mut chart = io::large_buffer();
     let n = io::read_full(0, &mut chart);
     let mut words = [0u32; WORDS];
-    match cache::open(&mut words, &chart[0..n], 0, number(1)) {
+    match cache::open(&mut words, &chart[0..n], 0, number(&rt, 1)) {
         OpenAnswer::Refused {
             refusal: _,
             line: _,
         } => {
             io::write_all(1, b"refused\n");
         }
-        OpenAnswer::Opened => run(&mut words),
+        OpenAnswer::Opened => run(&rt, &mut words),
     }
 }
 
 // The words are those of an opened cache.
-fn run(words: &mut [u32]) {
-    let goals = list(4);
-    fill(words, list(2), goals);
-    let search = opened(words, list(3), goals);
+fn run(rt: &impl Env, words: &mut [u32]) {
+    let goals = list(rt, 4);
+    fill(words, list(rt, 2), goals);
+    let search = opened(words, list(rt, 3), goals);
     solve(words, search, MAX_STEPS);
-    let sum = repeated(words, search, letter(5), number(6));
+    let sum = repeated(words, search, letter(rt, 5), number(rt, 6));
     io::print_decimal(1, sum);
     io::write_all(1, b"\n");
 }
@@ -80,7 +83,7 @@ fn repeated(words: &mut [u32], search: Search, call: u8, count: usize) -> u64 {
     let mut sum: u64 = 0;
     let mut i = 0;
     while i < count {
-        sum = std::num::wrapping_add_u64(sum, once(words, search, call));
+        sum = sum.wrapping_add(once(words, search, call));
         i += 1;
     }
     sum
@@ -107,30 +110,40 @@ fn plain_sum(words: &[u32]) -> u32 {
     let mut sum: u32 = 0;
     let mut i = 0;
     while i < words.len() {
-        sum = std::num::wrapping_add_u32(sum, words[i]);
+        sum = sum.wrapping_add(words[i]);
         i += 1;
     }
     sum
 }
 
 // An argument as a list, as a number, and its first byte.
-fn list(i: usize) -> Numbers {
+fn list(rt: &impl Env, i: usize) -> Numbers {
     let mut buffer = [0u8; 4096];
-    let n = os::arg(i, &mut buffer);
+    let n = argument(rt, i, &mut buffer);
     read_list(&buffer[0..n], b' ')
 }
 
-fn number(i: usize) -> usize {
+fn number(rt: &impl Env, i: usize) -> usize {
     let mut buffer = [0u8; 4096];
-    let n = os::arg(i, &mut buffer);
+    let n = argument(rt, i, &mut buffer);
     match read_number(&buffer[0..n]) {
         Number::Of(x) => x,
         Number::Illegal => 0,
     }
 }
 
-fn letter(i: usize) -> u8 {
+fn letter(rt: &impl Env, i: usize) -> u8 {
     let mut buffer = [0u8; 4096];
-    os::arg(i, &mut buffer);
+    argument(rt, i, &mut buffer);
     buffer[0]
+}
+
+// Puts an argument at the start of the bytes lent, and answers how many bytes it has there: none if it is missing or too long.
+fn argument(rt: &impl Env, i: usize, buffer: &mut [u8]) -> usize
+    ensures { result ≤ length buffer.new }
+{
+    match rt.arg(i, buffer) {
+        Ok(n) => n,
+        Err(_) => 0,
+    }
 }

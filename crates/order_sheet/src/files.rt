@@ -1,7 +1,12 @@
 // The sheet of two files.
 ghost use Rattle.order_sheet.specs.Sheet.{Within};
+ghost use Rattle.std.specs.Prelude.{◌≤◌, length, IfOk};
 
 use crate::{MAX_BYTES, run};
+use std::fs::File;
+use std::io::{Error, ErrorKind, Read};
+use std::rt::Files;
+use std::str;
 
 // One byte more than a file may have.
 const SPACE: usize = MAX_BYTES + 1;
@@ -13,51 +18,59 @@ pub enum Bytes {
 }
 
 // Prints the sheet of the files with these names. Where one of them cannot be read, standard error says so, and nothing is printed.
-pub fn run_files(chart_name: &[u8], orders_name: &[u8]) {
+pub fn run_files(rt: &(impl Files + Eprint), chart_name: &[u8], orders_name: &[u8]) {
     let mut chart = [0u8; SPACE];
-    let Bytes::Count(n) = read_file(chart_name, &mut chart) else {
+    let Bytes::Count(n) = read_file(rt, chart_name, &mut chart) else {
         return;
     };
     let mut orders = [0u8; SPACE];
-    let Bytes::Count(m) = read_file(orders_name, &mut orders) else {
+    let Bytes::Count(m) = read_file(rt, orders_name, &mut orders) else {
         return;
     };
     run(&chart[0..n], &orders[0..m]);
 }
 
 // A file's first bytes, as many as there is space for.
-pub fn read_file(name: &[u8], space: &mut [u8]) -> Bytes
+pub fn read_file(rt: &(impl Files + Eprint), name: &[u8], space: &mut [u8]) -> Bytes
     ensures { Within result space.new }
 {
-    let fd = os::open_read(name);
-    if fd < 0 {
-        os::fail(name);
-        return Bytes::Failed;
+    match read_named(rt, name, space) {
+        Ok(n) => Bytes::Count(n),
+        Err(error) => {
+            fail(rt, name, &error);
+            Bytes::Failed
+        }
     }
-    let bytes = read_all(fd, space);
-    if let Bytes::Failed = bytes {
-        os::fail(name);
-    }
-    libc::close(fd);
-    bytes
+}
+
+// A name that is no text names no file that can be opened.
+fn read_named(rt: &impl Files, name: &[u8], space: &mut [u8]) -> std::io::Result<usize>
+    ensures { IfOk result (λ n. n ≤ length space.new) }
+{
+    let Ok(path) = str::from_utf8(name) else {
+        return Err(Error::from(ErrorKind::InvalidFilename));
+    };
+    let mut file = File::open(rt, path)?;
+    read_all(&mut file, space)
 }
 
 // Reads until the space is full, the file ends or a read fails.
-fn read_all(fd: i32, space: &mut [u8]) -> Bytes
-    ensures { Within result space.new }
+fn read_all(file: &mut impl Read, space: &mut [u8]) -> std::io::Result<usize>
+    ensures { IfOk result (λ n. n ≤ length space.new) }
 {
     let mut at = 0;
     while at < space.len() {
-        let rest = &mut space[at..];
-        let got = libc::read(fd, rest);
-        if got < 0 {
-            return Bytes::Failed;
-        }
-        let n = io::count(got, rest);
+        let n = file.read(&mut space[at..])?;
         if n == 0 {
-            return Bytes::Count(at);
+            return Ok(at);
         }
         at += n;
     }
-    Bytes::Count(at)
+    Ok(at)
+}
+
+// Writes a line to standard error: the name, a colon and what failed.
+fn fail(rt: &impl Eprint, name: &[u8], error: &Error) {
+    io::write_all(2, name);
+    let _ = eprintln!(rt; ": {error}");
 }

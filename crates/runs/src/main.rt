@@ -2,6 +2,6 @@
 
 #![tactic(auto)]
 
-fn main() {
-    order_sheet::files::run_files(b"chart.txt", b"orders.txt");
+fn main(rt: HostRuntime) {
+    order_sheet::files::run_files(&rt, b"chart.txt", b"orders.txt");
 }
