@@ -1,6 +1,3 @@
-use Rattle.std.proofs.Common.{length, ◌≡◌, ℕ, ◌+◌, ◌-◌, ◌*◌, ◌<◌, ◌≤◌}
-use Rattle.layout.specs.Layout.{direction_in}
-use Rattle.paths.specs.Path.{Hung, MovesIs, CanBacktrack, Backtracks}
 use Rattle.paths.proofs.Counted.{Counted}
 use Rattle.paths.proofs.moves.Given as goal
 
