@@ -1,16 +1,15 @@
-use Rattle.std.proofs.Common.{tests}
 use Rattle.std.proofs.Common.{rules}
-use Rattle.put_text.proofs.Decimals.{Left, left-start, left-some, left-next, left_end}
+use Rattle.put_text.proofs.Decimals.{left-start, left-some, left-next, left_end}
 use Rattle.put_text.proofs.digits_of.Goals as goal
 
 -- src/lib.rt:108:5
 pub loop-left-init : goal.loop-left-init
-loop-left-init c = search (rules, tests, Left, left-next, left-some, left-start, left_end)
+loop-left-init c = search (rules, left-start)
 
 -- src/lib.rt:108:5
 pub loop-left-preserved : goal.loop-left-preserved
-loop-left-preserved c = search (rules, tests, Left, left-next, left-some, left-start, left_end)
+loop-left-preserved c = search (rules, left-next, left-some)
 
 -- src/lib.rt:101:1
 pub returns : goal.returns
-returns c = search (rules, tests, Left, left-next, left-some, left-start, left_end)
+returns c = search (rules, left_end)
