@@ -1,6 +1,6 @@
-use Rattle.std.proofs.Common.{length, ◌-◌, ◌+◌, ◌*◌, ◌<◌, ◌≤◌, ◌≡◌, ℕ}
+use Rattle.std.proofs.Common.{length, ◌-◌, ◌≤◌, ◌≡◌}
 use Rattle.put_text.specs.Puts.{Puts}
-use Rattle.order_lines.specs.Answers.{CanPutLine, answer_line, refused_by, refused_line, answer_fields, path_text, words_text, spaced}
+use Rattle.order_lines.specs.Answers.{words_text}
 use lib.ListN.{take}
 use Rattle.order_lines.proofs.answers.put_words.Given as goal
 

@@ -1,6 +1,4 @@
-use Rattle.std.proofs.Common.{length, ◌+◌, ◌-◌, ◌≡◌, ◌&&◌, [], ℕ, ◌*◌, ◌<◌, ◌≤◌}
-use Rattle.text.specs.Bytes.{comma, parted}
-use Rattle.order_lines.specs.Orders.{order_of, list_of, no_order, no_numbers, numbers_in, form_of, order_if, order_told, order_with, with_number}
+use Rattle.std.proofs.Common.{length, ◌+◌, ◌-◌}
 use Rattle.order_lines.proofs.Lists.{Reading}
 use Rattle.order_lines.proofs.orders.read_list.Given as goal
 
