@@ -1,7 +1,3 @@
-use Rattle.std.proofs.Common.{◌+◌, ◌-◌, ◌≡◌, [], ◌∷◌, ◌++◌, ◌<◌, ◌≤◌, length, ℕ, ◌*◌}
-use Rattle.text.specs.Bytes.{comma, digit0}
-use Rattle.text.specs.Print.{decimal, vertex_text, edge_text}
-use Rattle.put_text.specs.Puts.{Puts, DigitsOf, Written, initial_text}
 use Rattle.put_text.proofs.Decimals.{Left}
 use Rattle.put_text.proofs.digits_of.Given as goal
 

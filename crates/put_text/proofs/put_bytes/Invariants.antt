@@ -1,7 +1,5 @@
-use Rattle.std.proofs.Common.{length, ◌-◌, ◌≡◌, [], ◌∷◌, ◌++◌, ◌+◌, ◌<◌, ◌≤◌, ℕ, ◌*◌}
-use Rattle.text.specs.Bytes.{comma, digit0}
-use Rattle.text.specs.Print.{decimal, vertex_text, edge_text}
-use Rattle.put_text.specs.Puts.{Puts, DigitsOf, Written, initial_text}
+use Rattle.std.proofs.Common.{length, ◌-◌, ◌≡◌, ◌+◌, ◌≤◌}
+use Rattle.put_text.specs.Puts.{Puts}
 use lib.ListN.{take}
 use Rattle.put_text.proofs.put_bytes.Given as goal
 

@@ -1,31 +1,30 @@
-use Rattle.std.proofs.lemmas.Grind.{common_steps}
-use Rattle.std.proofs.lemmas.Bool.Decides.{nat_tests}
 use Rattle.std.proofs.Common.{arith}
-use Rattle.std.proofs.Common.{tests}
-use Rattle.std.proofs.Common.{rules, ◌≡◌, [], ◌∷◌, ◌++◌, ◌+◌, ◌<◌, ◌≤◌, length, ℕ, ◌-◌, ◌*◌, ◌/◌, ◌%◌, Bool, true, false, nat_eq, nat_lt, List, slice_index_or, slice_set, bit_and, bit_or, Fits, w8, w32, w64, Bor, MutBor}
-use Rattle.text.specs.Bytes.{comma, digit0}
-use Rattle.text.specs.Print.{decimal, vertex_text, edge_text}
-use Rattle.put_text.specs.Puts.{Puts, DigitsOf, Written, initial_text}
+use Rattle.std.proofs.Common.{rules}
 use Rattle.put_text.proofs.Puts.{puts_then}
 use Rattle.put_text.proofs.GraphLines.{field-length, vertex-length, vertex-parts}
 use Rattle.put_text.proofs.put_vertex.Goals as goal
 
 -- src/lib.rt:66:9
 pub put_bytes-a-requires : goal.put_bytes-a-requires
-put_bytes-a-requires c = search (rules, tests, field-length, puts_then, vertex-length, vertex-parts)
+put_bytes-a-requires c = search (rules, field-length, vertex-length)
 
 -- src/lib.rt:67:9
 pub put_field-b-requires : goal.put_field-b-requires
-put_field-b-requires c = search (rules, tests, field-length, puts_then, vertex-length, vertex-parts)
+put_field-b-requires c = search (rules, field-length, vertex-length)
 
 -- src/lib.rt:68:9
 pub put_initial-c-requires : goal.put_initial-c-requires
-put_initial-c-requires c = search (rules, tests, field-length, puts_then, vertex-length, vertex-parts)
+put_initial-c-requires c = search (rules, field-length, vertex-length)
 
 -- src/lib.rt:69:5
 pub put_byte-requires : goal.put_byte-requires
-put_byte-requires c = search (rules, tests, field-length, puts_then, vertex-length, vertex-parts)
+put_byte-requires c = search (rules, field-length, vertex-length)
 
 -- src/lib.rt:62:1
 pub returns : goal.returns
-returns c = grind (arith, common_steps, nat_tests, field-length, puts_then, vertex-length, vertex-parts)
+returns c =
+    let e = vertex-length c.args.vertex c.args.initial in
+    let f = field-length c.args.vertex in
+    let initial = puts_then (omega arith) c.put_initial-c.ensures c.put_byte.ensures in
+    let fields = puts_then (omega arith) c.put_field-b.ensures initial in
+    rw (vertex-parts c.args.vertex c.args.initial) (puts_then (omega arith) c.put_bytes-a.ensures fields)

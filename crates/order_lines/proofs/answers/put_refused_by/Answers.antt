@@ -1,0 +1,13 @@
+use Rattle.std.proofs.Common.{arith}
+use Rattle.std.proofs.Common.{rules}
+use Rattle.put_text.proofs.Decimals.{decimal-length}
+use Rattle.put_text.proofs.Puts.{puts_then}
+use Rattle.order_lines.proofs.answers.put_refused_by.Goals as goal
+
+-- src/answers.rt:56:5
+pub put_word-requires : goal.put_word-requires
+put_word-requires c = search (rules, decimal-length)
+
+-- src/answers.rt:51:1
+pub returns : goal.returns
+returns c = puts_then (omega arith) c.put_bytes-a.ensures c.put_word.ensures
