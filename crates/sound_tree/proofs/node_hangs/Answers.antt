@@ -36,7 +36,7 @@ returns-then-claimed-cost c = search (rules, tests, hang-above, hang-outside, ha
 
 -- src/lib.rt:134:23
 pub bounds-tree-closed_at : goal.bounds-tree-closed_at
-bounds-tree-closed_at c = grind (arith, common_steps, nat_tests, hang-above, hang-outside, hang-leaves, hang-enters, hang-cost, hang-last, hang-place)
+bounds-tree-closed_at c = (hang-place c.requires c.if-edges-edge.false c.closed_at.ensures c.edge_from-from.ensures c.wide-3.ensures).0
 
 -- src/lib.rt:109:1
 pub returns : goal.returns

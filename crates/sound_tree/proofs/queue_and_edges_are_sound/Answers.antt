@@ -16,7 +16,7 @@ use Rattle.sound_tree.proofs.queue_and_edges_are_sound.Goals as goal
 
 -- src/lib.rt:159:8
 pub overflow_add-leaving : goal.overflow_add-leaving
-overflow_add-leaving c = grind (arith, common_steps, nat_tests, few-edges, queue-words, bad-queue, waits, closed-fit, bad-closers, bad-nodes, bad-root, tables-last, leads-on, root-marked)
+overflow_add-leaving c = omega (arith, few-edges c.requires.0 c.closed_edges-leaving.ensures)
 
 -- src/lib.rt:160:9
 pub returns-then-leaving-used : goal.returns-then-leaving-used

@@ -33,10 +33,7 @@ returns-then-before c = search (rules, tests, after-parent, first_word, no_node,
 
 -- src/lib.rt:191:1
 pub returns-then-cost-costs : goal.returns-then-cost-costs
-returns-then-cost-costs c =
-    elim c.if-i-gt0.branch [ then-i-gt0+else-before w ↦ search (rules, after-parent, first_word, no_node, twice, before_parent, has-cost, lower, not_lower, orderb, parent-node) | else-i-gt0 w ↦ search (rules, after-parent, first_word, no_node, twice, before_parent, has-cost, lower, not_lower, orderb, parent-node) ]
+returns-then-cost-costs c = elim c.if-i-gt0.branch [ then-i-gt0+else-before w ↦ search (rules, lower, after-parent) | else-i-gt0 w ↦ search (rules, lower, first_word) ]
 
-returns-else-cost-costs c =
-    elim c.if-i-gt0.branch [ then-i-gt0+else-before w ↦ search (rules, after-parent, first_word, no_node, twice, before_parent, has-cost, lower, not_lower, orderb, parent-node) | else-i-gt0 w ↦ search (rules, after-parent, first_word, no_node, twice, before_parent, has-cost, lower, not_lower, orderb, parent-node) ]
 pub returns-else-cost-costs : goal.returns-else-cost-costs
-returns-else-cost-costs c = ?
+returns-else-cost-costs c = elim c.if-i-gt0.branch [ then-i-gt0+else-before w ↦ search (rules, not_lower, after-parent) | else-i-gt0 w ↦ search (rules, not_lower, first_word) ]

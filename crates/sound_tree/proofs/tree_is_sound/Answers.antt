@@ -16,15 +16,15 @@ use Rattle.sound_tree.proofs.tree_is_sound.Goals as goal
 
 -- src/lib.rt:29:9
 pub returns-then-not-counts_are_sound : goal.returns-then-not-counts_are_sound
-returns-then-not-counts_are_sound c = grind (arith, common_steps, nat_tests, tree-fails, counted, has-areas, tree-last, hung)
+returns-then-not-counts_are_sound c = search (tree-fails 0)
 
 -- src/lib.rt:32:9
 pub returns-then-not-root_is_sound : goal.returns-then-not-root_is_sound
-returns-then-not-root_is_sound c = grind (arith, common_steps, nat_tests, tree-fails, counted, has-areas, tree-last, hung)
+returns-then-not-root_is_sound c = search (tree-fails 1)
 
 -- src/lib.rt:35:9
 pub returns-then-not-nodes_hang : goal.returns-then-not-nodes_hang
-returns-then-not-nodes_hang c = grind (arith, common_steps, nat_tests, tree-fails, counted, has-areas, tree-last, hung)
+returns-then-not-nodes_hang c = search (tree-fails 2)
 
 -- src/lib.rt:39:9
 pub queue_and_edges_are_sound-requires : goal.queue_and_edges_are_sound-requires
@@ -32,7 +32,7 @@ queue_and_edges_are_sound-requires c = search (rules, tests, tree-fails, counted
 
 -- src/lib.rt:47:9
 pub returns-then-not-queue_and_edges_are_sound : goal.returns-then-not-queue_and_edges_are_sound
-returns-then-not-queue_and_edges_are_sound c = grind (arith, common_steps, nat_tests, tree-fails, counted, has-areas, tree-last, hung)
+returns-then-not-queue_and_edges_are_sound c = search (tree-fails 3)
 
 -- src/lib.rt:24:1
 pub returns : goal.returns
