@@ -1,20 +1,11 @@
-use Rattle.std.proofs.Common.{tests}
-use Rattle.std.proofs.Common.{rules, ◌≡◌, false, ◌+◌, ◌<◌, ◌≤◌, length, get_or, replicate, ℕ, ◌-◌, ◌*◌, ◌/◌, ◌%◌, Bool, true, nat_eq, nat_lt, List, [], ◌∷◌, ◌++◌, slice_set, bit_and, bit_or, Fits, w8, w32, w64, Bor, MutBor}
-use Rattle.model.specs.Limits.{vertex_limit, edge_limit}
-use Rattle.model.specs.Lists.{allb, upto}
-use Rattle.model.specs.Sound.{hangsb, closed_edges, root_tests, hang_allb, closerb, onwardb}
-use Rattle.layout.specs.Layout.{closed_words_at, used_in, queued_in}
-use Rattle.layout.specs.Read.{tree_in, domain_of}
-use Rattle.layout.specs.Sound.{zerosb, tree_wordsb, spare_tests}
-use Rattle.tree.specs.Tree.{tree_of, HasVertex}
-use Rattle.sound_tree.specs.Check.{CanCheck, count_tests, Counted, Hung, QueueWords, QueueTurn, QueueIs, Waits, RootMarked, BegunIs, LeadsOn, tables_tests, Areas, node_limit, no_cost}
-use Rattle.sound_tree.proofs.QueueTests.{queue-none, queue-turn, queue-fails, queue-passes, queue-all}
+use Rattle.std.proofs.Common.{rules}
+use Rattle.sound_tree.proofs.QueueTests.{queue-none, queue-fails}
 use Rattle.sound_tree.proofs.queue_is_sound.Goals as goal
 
 -- src/lib.rt:181:5
 pub loop-i-init : goal.loop-i-init
-loop-i-init c = search (rules, tests, queue-none, queue-turn, queue-fails, queue-passes, queue-all)
+loop-i-init c = search (rules, queue-none)
 
 -- src/lib.rt:183:13
 pub returns-then-not-queue_word_is_sound : goal.returns-then-not-queue_word_is_sound
-returns-then-not-queue_word_is_sound c = search (rules, tests, queue-none, queue-turn, queue-fails, queue-passes, queue-all)
+returns-then-not-queue_word_is_sound c = search (rules, queue-fails)
