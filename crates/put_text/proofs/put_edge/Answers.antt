@@ -1,5 +1,4 @@
-use Rattle.std.proofs.Common.{arith}
-use Rattle.std.proofs.Common.{rules}
+use Rattle.std.proofs.Common.{arith, rules}
 use Rattle.put_text.proofs.Puts.{puts_then}
 use Rattle.put_text.proofs.GraphLines.{field-length, edge-length, edge-parts}
 use Rattle.put_text.proofs.put_edge.Goals as goal

@@ -1,8 +1,6 @@
 use mathlib.Core.Path.{sym, ◌∙◌}
 use Rattle.search_words.specs.Record.{goals_at}
-use Rattle.std.proofs.Common.{arith}
-use Rattle.std.proofs.Common.{rules}
-use Rattle.search_words.specs.Record.{goals_at}
+use Rattle.std.proofs.Common.{arith, rules}
 use Rattle.search_words.proofs.Stores.{one-filled, all-filled}
 use Rattle.search_words.proofs.Inverse.{row}
 use Rattle.search_words.proofs.decode_goals.Goals as goal

@@ -1,5 +1,4 @@
-use Rattle.std.proofs.Common.{arith}
-use Rattle.std.proofs.Common.{rules}
+use Rattle.std.proofs.Common.{arith, rules}
 use Rattle.put_text.proofs.Puts.{puts_then}
 use Rattle.put_text.proofs.Decimals.{decimal-length}
 use Rattle.order_lines.proofs.Words.{refused-length}

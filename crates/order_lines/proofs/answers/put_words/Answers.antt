@@ -1,5 +1,4 @@
-use Rattle.std.proofs.Common.{arith}
-use Rattle.std.proofs.Common.{rules}
+use Rattle.std.proofs.Common.{arith, rules}
 use Rattle.order_lines.proofs.Words.{words-room, words-start, words-next}
 use Rattle.order_lines.proofs.answers.put_words.Goals as goal
 
