@@ -1,0 +1,16 @@
+use Rattle.std.proofs.Common.{◌≡◌, ◌<◌, ℕ, ◌+◌, ◌-◌, ◌*◌, ◌≤◌, length}
+use Rattle.model.specs.Graph.{choices}
+use Rattle.model.specs.Tree.{push_all, push_node, child, above}
+use Rattle.layout.specs.Slots.{tree_at, domain_at}
+use Rattle.sound.specs.Facts.{InUse}
+use Rattle.queue.specs.Queue.{figures}
+use Rattle.grow.specs.Grow.{Grew, SlotHolds, CanPushChoice, CanPushChoices, CanVisit, Visits, GoesOn}
+use Rattle.grow.proofs.Growing.{Growing}
+use Rattle.grow.proofs.grow.Given as goal
+
+abbrev pub invariant-loop-left : goal.invariant-loop-left
+invariant-loop-left l = Growing l.initial.words l.slot l.goals l.bound l.s l.words l.left l.tickets
+
+-- proposed from the loop's first test
+abbrev pub decreases-loop-left : goal.decreases-loop-left
+decreases-loop-left l = l.left
