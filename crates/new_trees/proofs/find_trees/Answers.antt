@@ -1,29 +1,31 @@
-use Rattle.std.proofs.lemmas.Grind.{common_steps}
-use Rattle.std.proofs.lemmas.Bool.Decides.{nat_tests}
-use Rattle.std.proofs.Common.{arith}
-use Rattle.std.proofs.Common.{tests}
-use Rattle.std.proofs.Common.{rules, ◌≡◌, length, ℕ, ◌+◌, ◌-◌, ◌*◌, ◌<◌, ◌≤◌, ◌/◌, ◌%◌, Bool, true, false, nat_eq, nat_lt, List, [], ◌∷◌, ◌++◌, slice_index_or, slice_set, bit_and, bit_or, Fits, w8, w32, w64, Bor, MutBor}
-use Rattle.std.proofs.lemmas.List.Edits.{sets}
-use Rattle.layout.specs.Layout.{NodeFits}
+use Rattle.std.proofs.Common.{◌≡◌, ◌<◌, ◌+◌, refl, length, arith, rules}
+use Rattle.std.proofs.Math.ListN.{length-set}
+use Rattle.model.specs.Sound.{tree}
 use Rattle.layout.specs.Read.{read_cache}
-use Rattle.new_trees.specs.Plant.{CanPlan, Plans, SlotTable, CanFindTrees, PlansRoot, CanPlanRoot, CanPlant, Plants, CanPlantAll, PlantsAll}
-use Rattle.layout.specs.Planted.{root_words}
-use Rattle.sound.proofs.InUse.{has-slot}
-use Rattle.new_trees.proofs.Table.{table_none, start-within, start-read, start_small, table-next, table-all}
+use Rattle.sound.specs.Facts.{InUse}
+use Rattle.new_trees.proofs.Table.{table_none, start-read, start_small, table-next, table-all}
 use Rattle.new_trees.proofs.find_trees.Goals as goal
+use Rattle.new_trees.proofs.find_trees.Goals.{After-wide}
 
--- src/lib.rt:54:5
 pub loop-i-init : goal.loop-i-init
-loop-i-init c = search (rules, tests, has-slot, start-read, start-within, start_small, table-all, table-next, table_none)
+loop-i-init c = search (rules, table_none)
 
--- src/lib.rt:57:9
+-- the slot of the turn is in use
+in_use : (c : After-wide) → InUse c.args.words.now c.loop-i.i
+in_use c = record { sound = c.requires.sound; slot = omega (arith, c.header-used.ensures, c.loop-i-test.true) }
+
+-- the tree's start, and that it has a place in the table
+start : (c : After-wide) → c.wide.result ≡ (tree (read_cache c.args.words.now).trees c.loop-i.i).start
+start c = let u = in_use c in start-read u.sound u.slot c.slot_words.ensures c.wide.ensures
+
 pub bounds-table-wide : goal.bounds-table-wide
-bounds-table-wide c = grind (arith, common_steps, nat_tests, has-slot, start-read, start-within, start_small, table-all, table-next, table_none)
+bounds-table-wide c = let u = in_use c in omega (arith, start c, start_small u.sound u.slot, c.loop-i.invariant.0.len)
 
--- src/lib.rt:54:5
 pub loop-i-preserved : goal.loop-i-preserved
-loop-i-preserved c = grind (arith, common_steps, nat_tests, has-slot, start-read, start-within, start_small, table-all, table-next, table_none)
+loop-i-preserved c =
+    let u = in_use c in
+    let inv = c.loop-i.invariant in
+    (table-next u.sound u.slot inv.0 (start c) refl, simp length-set inv.1)
 
--- src/lib.rt:48:1
 pub returns : goal.returns
-returns c = grind (arith, common_steps, nat_tests, has-slot, start-read, start-within, start_small, table-all, table-next, table_none)
+returns c = table-all c.args.words.now c.loop-i.i c.loop-i.invariant.0 (omega (arith, c.header-used.ensures))
