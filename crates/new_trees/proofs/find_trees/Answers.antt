@@ -1,4 +1,4 @@
-use Rattle.std.proofs.Common.{◌≡◌, ◌<◌, ◌+◌, refl, length, arith, rules}
+use Rattle.std.proofs.Common.{◌≡◌, refl, arith, rules}
 use Rattle.std.proofs.Math.ListN.{length-set}
 use Rattle.model.specs.Sound.{tree}
 use Rattle.layout.specs.Read.{read_cache}

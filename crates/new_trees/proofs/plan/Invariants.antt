@@ -1,9 +1,4 @@
-use Rattle.std.proofs.Common.{length, ◌-◌, ◌≡◌, ℕ, ◌+◌, ◌*◌, ◌<◌, ◌≤◌}
-use Rattle.std.proofs.lemmas.List.Edits.{sets}
-use Rattle.layout.specs.Layout.{NodeFits}
-use Rattle.layout.specs.Read.{read_cache}
-use Rattle.new_trees.specs.Plant.{CanPlan, Plans, SlotTable, CanFindTrees, PlansRoot, CanPlanRoot, CanPlant, Plants, CanPlantAll, PlantsAll}
-use Rattle.layout.specs.Planted.{root_words}
+use Rattle.std.proofs.Common.{length, ◌-◌, ◌≤◌}
 use lib.ListN.{take}
 use Rattle.layout.specs.Planted.{planted_in}
 use Rattle.new_trees.proofs.Roots.{Matches}

@@ -1,9 +1,5 @@
-use Rattle.std.proofs.Common.{length, ◌-◌, ◌≡◌, ℕ, ◌+◌, ◌*◌, ◌<◌, ◌≤◌}
-use Rattle.std.proofs.lemmas.List.Edits.{sets}
-use Rattle.layout.specs.Layout.{NodeFits}
-use Rattle.layout.specs.Read.{read_cache}
-use Rattle.new_trees.specs.Plant.{CanPlan, Plans, SlotTable, CanFindTrees, PlansRoot, CanPlanRoot, CanPlant, Plants, CanPlantAll, PlantsAll}
-use Rattle.layout.specs.Planted.{root_words}
+use Rattle.std.proofs.Common.{length, ◌-◌, ◌≡◌}
+use Rattle.new_trees.specs.Plant.{PlantsAll}
 use lib.ListN.{take}
 use Rattle.new_trees.proofs.plant_all.Given as goal
 
