@@ -9,7 +9,7 @@ use native.Mathlib.Omega.{arith}
 use native.Mathlib.Decide.{dec_lt}
 use borrow.Author.Tests.{ne_eqb, not-true, not-false}
 use lib.Dec.{eqb, eqb-zero-suc, eqb-suc-suc}
-use lib.ListN.{length, get_or, get_or-eq_default}
+use lib.ListN.{length, get_or-eq_default}
 use Rattle.model.specs.Lists.{mem}
 use Rattle.model.specs.Tree.{Node, node, closed_at}
 use Rattle.model.specs.Valid.{closes_goal}

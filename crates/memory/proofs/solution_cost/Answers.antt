@@ -1,24 +1,14 @@
-use Rattle.std.proofs.lemmas.Grind.{common_steps}
-use Rattle.std.proofs.lemmas.Bool.Decides.{nat_tests}
-use Rattle.std.proofs.Common.{arith}
-use Rattle.std.proofs.Common.{tests}
-use Rattle.std.proofs.Common.{rules, ◌≡◌, ℕ, ◌+◌, ◌-◌, ◌*◌, ◌<◌, ◌≤◌, length, ◌/◌, ◌%◌, Bool, true, false, nat_eq, nat_lt, List, [], ◌∷◌, ◌++◌, slice_index_or, slice_set, bit_and, bit_or, Fits, w8, w32, w64, Bor, MutBor}
-use Rattle.model.specs.Lists.{allb}
-use Rattle.model.specs.Worth.{solution_cost}
-use Rattle.model.specs.Sound.{tree}
-use Rattle.model.specs.Valid.{known_within, closes_goal, entry_tests, held_cost, lesser, same_cost, is_held}
-use Rattle.layout.specs.Read.{read_cache}
-use Rattle.tree.specs.Tree.{tree_of}
-use Rattle.sound.specs.Facts.{SoundWords, InUse}
-use Rattle.memory.specs.Memory.{HasNode, HasVertices, CanJudge, best_node_tests}
-use Rattle.memory.specs.Standing.{shown_at, standing_of, standing_in}
-use Rattle.sound.proofs.InUse.{has-slot, words-used, words-node-fits, words-solution}
+use Rattle.std.proofs.Common.{arith, refl}
+use Rattle.sound.proofs.InUse.{words-used, words-node-fits, words-solution}
 use Rattle.memory.proofs.solution_cost.Goals as goal
 
 -- src/lib.rt:168:5
 pub solution_cost-requires : goal.solution_cost-requires
-solution_cost-requires c = grind (arith, common_steps, nat_tests, has-slot, words-node-fits, words-solution, words-used)
+solution_cost-requires c =
+    let a = c.requires in
+    let own = c.slot_words.ensures in
+    (omega (arith, a.node, words-used a.used own refl), omega (arith, words-node-fits a.used own refl _ a.node))
 
 -- src/lib.rt:164:1
 pub returns : goal.returns
-returns c = grind (arith, common_steps, nat_tests, has-slot, words-node-fits, words-solution, words-used)
+returns c = words-solution c.requires.used c.slot_words.ensures refl _ c.requires.node _ c.solution_cost.ensures
