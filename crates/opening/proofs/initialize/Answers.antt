@@ -1,4 +1,4 @@
-use Rattle.std.proofs.Common.{tests}
+use Rattle.std.proofs.Common.{tests, sym, ◌∙◌}
 use Rattle.std.proofs.Common.{rules, ◌≡◌, ℕ, ◌+◌, ◌-◌, ◌*◌, ◌<◌, ◌≤◌, length, ◌/◌, ◌%◌, Bool, true, false, nat_eq, nat_lt, List, [], ◌∷◌, ◌++◌, slice_index_or, slice_set, bit_and, bit_or, Fits, w8, w32, w64, Bor, MutBor}
 use Rattle.sound.specs.Facts.{SoundWords}
 use Rattle.opening.specs.Initialize.{Initializes, not_opened_by, CanOpenSearch, OpensSearch, CanTakeGoals, with_goals}
@@ -28,7 +28,11 @@ open_search-requires c = search (rules, tests, backward-lists, can-open, forward
 
 -- src/lib.rt:33:9
 pub returns-then-words-eq0 : goal.returns-then-words-eq0
-returns-then-words-eq0 c = ?
+returns-then-words-eq0 c =
+    let lists = forward-lists c.if-words-eq0.true _ _ in
+    opened _ _ _ c.requires c.if-starts-gt-MAX_ENTRIES.false c.if-goals-gt-MAX_ENTRIES.false c.header-vertices.ensures
+    (sym c.are_vertices.ensures ∙ c.if-not-are_vertices.false) (sym c.are_vertices-2.ensures ∙ c.if-not-are_vertices-2.false) _ _
+    lists.0 lists.1 _ _ c.open_search.ensures
 
 -- src/lib.rt:35:5
 pub open_search-requires-2 : goal.open_search-requires-2
@@ -36,4 +40,8 @@ open_search-requires-2 c = search (rules, tests, backward-lists, can-open, forwa
 
 -- src/lib.rt:15:1
 pub returns : goal.returns
-returns c = ?
+returns c =
+    let lists = backward-lists _ c.if-words-eq0.false _ _ in
+    opened _ _ _ c.requires c.if-starts-gt-MAX_ENTRIES.false c.if-goals-gt-MAX_ENTRIES.false c.header-vertices.ensures
+    (sym c.are_vertices.ensures ∙ c.if-not-are_vertices.false) (sym c.are_vertices-2.ensures ∙ c.if-not-are_vertices-2.false) _ _
+    lists.0 lists.1 _ _ c.open_search-2.ensures
