@@ -8,7 +8,7 @@ use mathlib.Core.Option.{Option, none}
 use Prim.Native.Nat.{ℕ, ◌-◌, ◌<◌, ◌≤◌}
 use borrow.Author.Tests.{le-leb, lt-leb}
 use lib.Dec.{leb, ltb}
-use lib.ListN.{length, get_or}
+use lib.ListN.{length}
 use Rattle.model.specs.declared.Refusal.{Refusal}
 use Rattle.model.specs.declared.Refusal.TheVariants.{NoSuchVertex, OverLimit, TreesFull}
 use Rattle.model.specs.declared.SearchOpened.{SearchOpened}

@@ -6,7 +6,7 @@ use mathlib.Core.List.{List}
 use Prim.Native.Nat.{ℕ, ◌-◌, ◌<◌, ◌≤◌}
 use native.Mathlib.Omega.{arith}
 use borrow.Author.Tests.{lt-ltb, le-ltb}
-use lib.ListN.{length, get_or, take}
+use lib.ListN.{length, take}
 use Rattle.model.specs.declared.InitializeAnswer.TheVariants.{Initialized}
 use Rattle.model.specs.declared.Refusal.TheVariants.{TreesFull}
 use Rattle.model.specs.declared.Search.{Search}

@@ -3,6 +3,5 @@ use Rattle.layout.proofs.Places.{word_first}
 use Rattle.layout.proofs.Trees.{vertex-word}
 use Rattle.layout.proofs.node_vertex.Goals as goal
 
--- src/lib.rt:201:1
 pub returns : goal.returns
 returns c = search (rules, vertex-word, word_first)

@@ -3,47 +3,36 @@ use Rattle.memory.proofs.Judged.{none-best, held-best, stands}
 use Rattle.memory.proofs.Valid.{many-trees, many_goals, goals-refuse, none_passed, entry-refuses, can-judge, one-passed, no-best, best-beyond, best-in-use, best-is}
 use Rattle.memory.proofs.judge.Goals as goal
 
--- src/lib.rt:46:9
 pub returns-then-search-gt-MAX_ENTRIES : goal.returns-then-search-gt-MAX_ENTRIES
 returns-then-search-gt-MAX_ENTRIES c = search many-trees
 
--- src/lib.rt:49:9
 pub returns-then-search-gt-MAX_ENTRIES-2 : goal.returns-then-search-gt-MAX_ENTRIES-2
 returns-then-search-gt-MAX_ENTRIES-2 c = search many_goals
 
--- src/lib.rt:56:9
 pub returns-then-not-are_vertices : goal.returns-then-not-are_vertices
 returns-then-not-are_vertices c = search goals-refuse
 
--- src/lib.rt:60:5
 pub loop-i-init : goal.loop-i-init
 loop-i-init c = search (rules, none_passed)
 
--- src/lib.rt:64:13
 pub returns-then-not-entry_is_valid : goal.returns-then-not-entry_is_valid
 returns-then-not-entry_is_valid c = search entry-refuses
 
--- src/lib.rt:66:13
 pub held_cost-held-requires : goal.held_cost-held-requires
 held_cost-held-requires c = search can-judge
 
--- src/lib.rt:60:5
 pub loop-i-preserved : goal.loop-i-preserved
 loop-i-preserved c = search one-passed
 
--- src/lib.rt:72:9
 pub returns-in_default : goal.returns-in_default
 returns-in_default c = search (stands, no-best, none-best)
 
--- src/lib.rt:75:9
 pub returns-then-search-entry : goal.returns-then-search-entry
 returns-then-search-entry c = search best-beyond
 
--- src/lib.rt:78:9
 pub best_is_valid-is_valid-requires : goal.best_is_valid-is_valid-requires
 best_is_valid-is_valid-requires c = search best-in-use
 
--- src/lib.rt:41:1
 pub returns : goal.returns
 returns c =
     let p = c.loop-i.invariant in

@@ -1,32 +1,24 @@
 use Rattle.std.proofs.Common.{tests, sym, ◌∙◌}
-use Rattle.std.proofs.Common.{rules, ◌≡◌, ℕ, ◌+◌, ◌-◌, ◌*◌, ◌<◌, ◌≤◌, length, ◌/◌, ◌%◌, Bool, true, false, nat_eq, nat_lt, List, [], ◌∷◌, ◌++◌, slice_index_or, slice_set, bit_and, bit_or, Fits, w8, w32, w64, Bor, MutBor}
-use Rattle.sound.specs.Facts.{SoundWords}
-use Rattle.opening.specs.Initialize.{Initializes, not_opened_by, CanOpenSearch, OpensSearch, CanTakeGoals, with_goals}
+use Rattle.std.proofs.Common.{rules}
 use Rattle.opening.proofs.Opened.{can-open}
 use Rattle.opening.proofs.Initialized.{forward-lists, backward-lists, starts-over, goals-over, start-past, goal-past, opened}
 use Rattle.opening.proofs.initialize.Goals as goal
 
--- src/lib.rt:20:9
 pub returns-then-starts-gt-MAX_ENTRIES : goal.returns-then-starts-gt-MAX_ENTRIES
 returns-then-starts-gt-MAX_ENTRIES c = search (rules, tests, backward-lists, can-open, forward-lists, goal-past, goals-over, opened, start-past, starts-over)
 
--- src/lib.rt:23:9
 pub returns-then-goals-gt-MAX_ENTRIES : goal.returns-then-goals-gt-MAX_ENTRIES
 returns-then-goals-gt-MAX_ENTRIES c = search (rules, tests, backward-lists, can-open, forward-lists, goal-past, goals-over, opened, start-past, starts-over)
 
--- src/lib.rt:27:9
 pub returns-then-not-are_vertices : goal.returns-then-not-are_vertices
 returns-then-not-are_vertices c = search (rules, tests, backward-lists, can-open, forward-lists, goal-past, goals-over, opened, start-past, starts-over)
 
--- src/lib.rt:30:9
 pub returns-then-not-are_vertices-2 : goal.returns-then-not-are_vertices-2
 returns-then-not-are_vertices-2 c = search (rules, tests, backward-lists, can-open, forward-lists, goal-past, goals-over, opened, start-past, starts-over)
 
--- src/lib.rt:33:9
 pub open_search-requires : goal.open_search-requires
 open_search-requires c = search (rules, tests, backward-lists, can-open, forward-lists, goal-past, goals-over, opened, start-past, starts-over)
 
--- src/lib.rt:33:9
 pub returns-then-words-eq0 : goal.returns-then-words-eq0
 returns-then-words-eq0 c =
     let lists = forward-lists c.if-words-eq0.true _ _ in
@@ -34,11 +26,9 @@ returns-then-words-eq0 c =
     (sym c.are_vertices.ensures ∙ c.if-not-are_vertices.false) (sym c.are_vertices-2.ensures ∙ c.if-not-are_vertices-2.false) _ _
     lists.0 lists.1 _ _ c.open_search.ensures
 
--- src/lib.rt:35:5
 pub open_search-requires-2 : goal.open_search-requires-2
 open_search-requires-2 c = search (rules, tests, backward-lists, can-open, forward-lists, goal-past, goals-over, opened, start-past, starts-over)
 
--- src/lib.rt:15:1
 pub returns : goal.returns
 returns c =
     let lists = backward-lists _ c.if-words-eq0.false _ _ in

@@ -1,11 +1,10 @@
-use Rattle.std.proofs.Common.{length, ◌-◌, ◌≡◌, ℕ, ◌+◌, ◌*◌, ◌<◌, ◌≤◌}
-use Rattle.sound.specs.Facts.{SoundWords}
-use Rattle.opening.specs.Initialize.{Initializes, not_opened_by, CanOpenSearch, OpensSearch, CanTakeGoals, with_goals}
+use Rattle.std.proofs.Common.{length, ◌-◌, ◌≡◌, ◌+◌, ◌≤◌}
+use Rattle.opening.specs.Initialize.{with_goals}
 use lib.ListN.{drop}
 use Rattle.opening.proofs.with_goals.Given as goal
 
 abbrev pub invariant-loop-i : goal.invariant-loop-i
-invariant-loop-i l = 
+invariant-loop-i l =
     (l.i ≤ length l.goals) × ((l.next.goal_count + (length l.goals - l.i) ≤ 64) × (with_goals l.next (drop l.i l.goals) ≡ with_goals l.initial.next l.goals))
 
 -- proposed from the loop's first test

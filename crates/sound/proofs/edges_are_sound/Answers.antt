@@ -3,18 +3,14 @@ use Rattle.std.proofs.Common.{rules}
 use Rattle.model.proofs.InTurn.{none_yet, one-fails, one_more, all-passed}
 use Rattle.sound.proofs.edges_are_sound.Goals as goal
 
--- src/lib.rt:108:5
 pub loop-e-init : goal.loop-e-init
-loop-e-init c = search (rules, tests, one-fails, one_more, all-passed, none_yet)
+loop-e-init c = search (rules, tests, none_yet)
 
--- src/lib.rt:110:13
 pub returns-then-not-edge_is_sound : goal.returns-then-not-edge_is_sound
-returns-then-not-edge_is_sound c = search (rules, tests, one-fails, one_more, all-passed, none_yet)
+returns-then-not-edge_is_sound c = search (rules, tests, one-fails)
 
--- src/lib.rt:108:5
 pub loop-e-preserved : goal.loop-e-preserved
 loop-e-preserved c = search (rules, tests, one-fails, one_more, all-passed, none_yet)
 
--- src/lib.rt:103:1
 pub returns : goal.returns
-returns c = search (rules, tests, one-fails, one_more, all-passed, none_yet)
+returns c = search (rules, tests, all-passed)

@@ -3,22 +3,17 @@ use Rattle.std.proofs.Common.{rules}
 use Rattle.sound.proofs.Cache.{trees-header, trees-sized, slots-few, trees-few, trees-in, trees-fail, trees-last, spare-from, spare-fits, spare-small}
 use Rattle.sound.proofs.trees_are_sound.Goals as goal
 
--- src/lib.rt:138:9
 pub trees_in_use_are_sound-requires : goal.trees_in_use_are_sound-requires
-trees_in_use_are_sound-requires c = search (rules, tests, spare-small, spare-fits, trees-header, trees-in, trees-fail, trees-sized, trees-few, slots-few, spare-from, trees-last)
+trees_in_use_are_sound-requires c = search (rules, tests, trees-in)
 
--- src/lib.rt:139:9
 pub returns-then-not-trees_in_use_are_sound : goal.returns-then-not-trees_in_use_are_sound
 returns-then-not-trees_in_use_are_sound c = search (rules, tests, spare-small, spare-fits, trees-header, trees-in, trees-fail, trees-sized, trees-few, slots-few, spare-from, trees-last)
 
--- src/lib.rt:143:13
 pub slice_bounds-is_zero-count : goal.slice_bounds-is_zero-count
-slice_bounds-is_zero-count c = search (rules, tests, spare-small, spare-fits, trees-header, trees-in, trees-fail, trees-sized, trees-few, slots-few, spare-from, trees-last)
+slice_bounds-is_zero-count c = search (rules, tests, spare-from)
 
--- src/lib.rt:143:13
 pub slice_bounds-is_zero-start : goal.slice_bounds-is_zero-start
-slice_bounds-is_zero-start c = search (rules, tests, spare-small, spare-fits, trees-header, trees-in, trees-fail, trees-sized, trees-few, slots-few, spare-from, trees-last)
+slice_bounds-is_zero-start c = search (rules, tests, spare-from)
 
--- src/lib.rt:130:1
 pub returns : goal.returns
 returns c = search (rules, tests, spare-small, spare-fits, trees-header, trees-in, trees-fail, trees-sized, trees-few, slots-few, spare-from, trees-last)

@@ -3,26 +3,20 @@ use Rattle.std.proofs.Common.{rules}
 use Rattle.sound.proofs.Cache.{trees-none, starts_none, has-slot, can-check, has-start, tree-fails, has-mark, start-twice, trees-more, starts-marked, trees-all}
 use Rattle.sound.proofs.trees_in_use_are_sound.Goals as goal
 
--- src/lib.rt:154:5
 pub loop-i-init : goal.loop-i-init
 loop-i-init c = search (rules, tests, starts_none, has-slot, can-check, tree-fails, has-start, has-mark, start-twice, trees-more, starts-marked, trees-all, trees-none)
 
--- src/lib.rt:157:13
 pub returns-then-not-tree_is_sound : goal.returns-then-not-tree_is_sound
-returns-then-not-tree_is_sound c = search (rules, tests, starts_none, has-slot, can-check, tree-fails, has-start, has-mark, start-twice, trees-more, starts-marked, trees-all, trees-none)
+returns-then-not-tree_is_sound c = search (rules, tests, tree-fails, start-twice)
 
--- src/lib.rt:160:12
 pub bounds-starts-start : goal.bounds-starts-start
-bounds-starts-start c = search (rules, tests, starts_none, has-slot, can-check, tree-fails, has-start, has-mark, start-twice, trees-more, starts-marked, trees-all, trees-none)
+bounds-starts-start c = search (rules, tests, has-mark)
 
--- src/lib.rt:161:13
 pub returns-then-starts-start : goal.returns-then-starts-start
-returns-then-starts-start c = search (rules, tests, starts_none, has-slot, can-check, tree-fails, has-start, has-mark, start-twice, trees-more, starts-marked, trees-all, trees-none)
+returns-then-starts-start c = search (rules, tests, tree-fails, start-twice)
 
--- src/lib.rt:163:9
 pub bounds-starts-start-in-loop-i : goal.bounds-starts-start-in-loop-i
-bounds-starts-start-in-loop-i c = search (rules, tests, starts_none, has-slot, can-check, tree-fails, has-start, has-mark, start-twice, trees-more, starts-marked, trees-all, trees-none)
+bounds-starts-start-in-loop-i c = search (rules, tests, has-mark)
 
--- src/lib.rt:154:5
 pub loop-i-preserved : goal.loop-i-preserved
 loop-i-preserved c = search (rules, tests, starts_none, has-slot, can-check, tree-fails, has-start, has-mark, start-twice, trees-more, starts-marked, trees-all, trees-none)

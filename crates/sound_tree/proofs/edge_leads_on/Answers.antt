@@ -5,35 +5,27 @@ use Rattle.std.proofs.Common.{rules}
 use Rattle.sound_tree.proofs.Edges.{onward-place, onward-open, onward-closer, sum_fits, sums, reached-place, reached-closer, has-least, onward-shut, onward-waits}
 use Rattle.sound_tree.proofs.edge_leads_on.Goals as goal
 
--- src/lib.rt:323:16
 pub bounds-tree-closed : goal.bounds-tree-closed
 bounds-tree-closed c = search (rules, onward-place)
 
--- src/lib.rt:325:9
 pub returns-then-word-eq0 : goal.returns-then-word-eq0
 returns-then-word-eq0 c = search (rules, onward-open)
 
--- src/lib.rt:327:15
 pub evaluation-requires : goal.evaluation-requires
 evaluation-requires c = search (rules, onward-closer)
 
--- src/lib.rt:327:15
 pub overflow_add-sum : goal.overflow_add-sum
 overflow_add-sum c = search (rules, sum_fits)
 
--- src/lib.rt:330:19
 pub bounds-tree-closed-2 : goal.bounds-tree-closed-2
 bounds-tree-closed-2 c = reached-place (sums c.requires.0 c.requires.1 c.closed_at-closed.ensures c.edge_from.ensures c.wide-from.ensures c.if-word-eq0.false c.evaluation.ensures c.edge_cost.ensures c.weight_of.ensures c.edge_to.ensures c.wide-to.ensures)
 
--- src/lib.rt:332:12
 pub evaluation-requires-then-reached-ne0 : goal.evaluation-requires-then-reached-ne0
 evaluation-requires-then-reached-ne0 c = reached-closer (sums c.requires.0 c.requires.1 c.closed_at-closed.ensures c.edge_from.ensures c.wide-from.ensures c.if-word-eq0.false c.evaluation.ensures c.edge_cost.ensures c.weight_of.ensures c.edge_to.ensures c.wide-to.ensures) c.if-reached-ne0.true
 
--- src/lib.rt:333:13
 pub returns-then-evaluation-sum : goal.returns-then-evaluation-sum
 returns-then-evaluation-sum c = onward-shut (sums c.requires.0 c.requires.1 c.closed_at-closed.ensures c.edge_from.ensures c.wide-from.ensures c.if-word-eq0.false c.evaluation.ensures c.edge_cost.ensures c.weight_of.ensures c.edge_to.ensures c.wide-to.ensures) c.if-reached-ne0.true c.evaluation-then-reached-ne0.ensures c.if-evaluation-sum.true
 
--- src/lib.rt:336:5
 pub bounds-costs-to : goal.bounds-costs-to
 bounds-costs-to c = has-least (sums c.requires.0 c.requires.1 c.closed_at-closed.ensures c.edge_from.ensures c.wide-from.ensures c.if-word-eq0.false c.evaluation.ensures c.edge_cost.ensures c.weight_of.ensures c.edge_to.ensures c.wide-to.ensures)
 

@@ -2,10 +2,8 @@ use Rattle.std.proofs.Common.{rules}
 use Rattle.sound_tree.proofs.Zeros.{zeros-end, zeros-next}
 use Rattle.sound_tree.proofs.is_zero.Goals as goal
 
--- src/lib.rt:360:5
 pub loop-i-preserved : goal.loop-i-preserved
 loop-i-preserved c = search (rules, zeros-end, zeros-next)
 
--- src/lib.rt:355:1
 pub returns : goal.returns
 returns c = search (rules, zeros-end, zeros-next)

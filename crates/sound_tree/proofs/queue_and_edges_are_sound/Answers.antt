@@ -3,14 +3,11 @@ use Rattle.std.proofs.Common.{rules}
 use Rattle.sound_tree.proofs.Tables.{few-edges, bad-nodes, tables-last}
 use Rattle.sound_tree.proofs.queue_and_edges_are_sound.Goals as goal
 
--- src/lib.rt:159:8
 pub overflow_add-leaving : goal.overflow_add-leaving
 overflow_add-leaving c = omega (arith, few-edges c.requires.0 c.closed_edges-leaving.ensures)
 
--- src/lib.rt:160:9
 pub returns-then-leaving-used : goal.returns-then-leaving-used
 returns-then-leaving-used c = search (rules, bad-nodes)
 
--- src/lib.rt:140:1
 pub returns : goal.returns
 returns c = search (rules, tables-last)

@@ -3,23 +3,18 @@ use Rattle.std.proofs.Common.{rules}
 use Rattle.sound_tree.proofs.QueueTests.{no_node, twice, parent-node, before_parent, after-parent, first_word, lower, not_lower}
 use Rattle.sound_tree.proofs.queue_word_is_sound.Goals as goal
 
--- src/lib.rt:206:9
 pub returns-then-wide-node : goal.returns-then-wide-node
 returns-then-wide-node c = search (rules, no_node)
 
--- src/lib.rt:209:9
 pub returns-then-marks-node : goal.returns-then-marks-node
 returns-then-marks-node c = search (rules, twice)
 
--- src/lib.rt:212:13
 pub precedes-before-requires : goal.precedes-before-requires
 precedes-before-requires c = search (rules, parent-node)
 
--- src/lib.rt:214:13
 pub returns-then-before : goal.returns-then-before
 returns-then-before c = search (rules, before_parent)
 
--- src/lib.rt:191:1
 pub returns-then-cost-costs : goal.returns-then-cost-costs
 returns-then-cost-costs c = elim c.if-i-gt0.branch [ then-i-gt0+else-before w ↦ search (rules, lower, after-parent) | else-i-gt0 w ↦ search (rules, lower, first_word) ]
 

@@ -4,11 +4,9 @@ use Rattle.std.proofs.Common.{rules}
 use Rattle.tree.proofs.Added.{closer-within, push-open, push-within, push-above}
 use Rattle.tree.proofs.push_node.Goals as goal
 
--- src/lib.rt:36:17
 pub returns-then-evaluation-evaluation_of : goal.returns-then-evaluation-evaluation_of
 returns-then-evaluation-evaluation_of c = search (rules, tests, closer-within, push-open, push-above, push-within)
 
--- src/lib.rt:28:1
 pub returns : goal.returns
 returns c =
     elim c.match-status.branch [

@@ -2,14 +2,11 @@ use Rattle.std.proofs.Common.{rules}
 use Rattle.layout.proofs.Members.{mem-found, mem-next, mem-none}
 use Rattle.layout.proofs.lists.contains.Goals as goal
 
--- src/lists.rt:13:13
 pub returns-then-list-i : goal.returns-then-list-i
 returns-then-list-i c = search (rules, mem-found, mem-next, mem-none)
 
--- src/lists.rt:11:5
 pub loop-i-preserved : goal.loop-i-preserved
-loop-i-preserved c = search (rules, mem-found, mem-next, mem-none)
+loop-i-preserved c = search (rules, mem-next)
 
--- src/lists.rt:7:1
 pub returns : goal.returns
 returns c = search (rules, mem-found, mem-next, mem-none)

@@ -2,10 +2,8 @@ use Rattle.std.proofs.Common.{rules}
 use Rattle.text.proofs.Parted.{place_is}
 use Rattle.text.proofs.bytes.find.Goals as goal
 
--- src/bytes.rt:24:13
 pub returns-then-s-i : goal.returns-then-s-i
 returns-then-s-i c = search (rules, place_is)
 
--- src/bytes.rt:18:1
 pub returns : goal.returns
 returns c = search (rules, place_is)

@@ -2,14 +2,11 @@ use Rattle.std.proofs.Common.{rules}
 use Rattle.text.proofs.FieldsRead.{lettered-short, lettered-other, lettered-fields}
 use Rattle.text.proofs.fields.read_lettered.Goals as goal
 
--- src/fields.rt:36:9
 pub returns-then-s-lt2 : goal.returns-then-s-lt2
 returns-then-s-lt2 c = search (rules, lettered-fields, lettered-other, lettered-short)
 
--- src/fields.rt:39:9
 pub returns-then-s-ne44 : goal.returns-then-s-ne44
 returns-then-s-ne44 c = search (rules, lettered-fields, lettered-other, lettered-short)
 
--- src/fields.rt:32:1
 pub returns : goal.returns
-returns c = search (rules, lettered-fields, lettered-other, lettered-short)
+returns c = search (rules, lettered-fields)

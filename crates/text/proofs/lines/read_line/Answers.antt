@@ -3,17 +3,14 @@ use Rattle.std.proofs.Common.{rules}
 use Rattle.text.specs.Lines.{line_of}
 use Rattle.text.proofs.lines.read_line.Goals as goal
 
--- src/lines.rt:27:9
 pub returns-then-line-eq77 : goal.returns-then-line-eq77
 unfolding line_of
 returns-then-line-eq77 c = search (rules, tests)
 
--- src/lines.rt:30:9
 pub returns-then-line-eq76 : goal.returns-then-line-eq76
 unfolding line_of
 returns-then-line-eq76 c = search (rules, tests)
 
--- src/lines.rt:21:1
 pub returns : goal.returns
 unfolding line_of
 returns c = search (rules, tests)

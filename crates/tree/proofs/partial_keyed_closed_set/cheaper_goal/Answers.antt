@@ -4,18 +4,14 @@ use Rattle.tree.proofs.Closed.{node-fits}
 use Rattle.tree.proofs.Goals.{goal-open, goal-node, goal-first, held-node, goal-cheaper, goal-dearer}
 use Rattle.tree.proofs.partial_keyed_closed_set.cheaper_goal.Goals as goal
 
--- src/partial_keyed_closed_set.rt:97:21
 pub returns-then-solution_cost : goal.returns-then-solution_cost
-returns-then-solution_cost c = search (rules, tests, node-fits, goal-node, held-node, goal-open, goal-first, goal-dearer, goal-cheaper)
+returns-then-solution_cost c = search (rules, tests, goal-first, goal-dearer, goal-cheaper)
 
--- src/partial_keyed_closed_set.rt:81:1
 pub returns-in-Open : goal.returns-in-Open
-returns-in-Open c = search (rules, tests, node-fits, goal-node, held-node, goal-open, goal-first, goal-dearer, goal-cheaper)
+returns-in-Open c = search (rules, tests, goal-open)
 
--- src/partial_keyed_closed_set.rt:81:1
 pub returns-in-Unsolved : goal.returns-in-Unsolved
 returns-in-Unsolved c = search (rules, tests, node-fits, goal-node, held-node, goal-open, goal-first, goal-dearer, goal-cheaper)
 
--- src/partial_keyed_closed_set.rt:81:1
 pub returns-else-solution_cost : goal.returns-else-solution_cost
-returns-else-solution_cost c = search (rules, tests, node-fits, goal-node, held-node, goal-open, goal-first, goal-dearer, goal-cheaper)
+returns-else-solution_cost c = search (rules, tests, goal-first, goal-dearer, goal-cheaper)

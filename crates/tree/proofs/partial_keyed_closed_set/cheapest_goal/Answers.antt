@@ -3,10 +3,8 @@ use Rattle.std.proofs.Common.{rules}
 use Rattle.tree.proofs.Goals.{Cheapest, cheapest-none, cheapest-more, cheapest-all}
 use Rattle.tree.proofs.partial_keyed_closed_set.cheapest_goal.Goals as goal
 
--- src/partial_keyed_closed_set.rt:73:5
 pub loop-i-preserved : goal.loop-i-preserved
-loop-i-preserved c = search (rules, tests, cheapest-none, cheapest-more, cheapest-all, Cheapest)
+loop-i-preserved c = search (rules, tests, cheapest-more)
 
--- src/partial_keyed_closed_set.rt:67:1
 pub returns : goal.returns
 returns c = search (rules, tests, cheapest-none, cheapest-more, cheapest-all, Cheapest)

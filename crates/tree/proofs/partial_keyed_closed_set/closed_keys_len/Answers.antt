@@ -4,11 +4,9 @@ use Rattle.std.proofs.Common.{rules}
 use Rattle.tree.proofs.Counted.{Counted, counted_none, counted-closed, counted-open, counted-all}
 use Rattle.tree.proofs.partial_keyed_closed_set.closed_keys_len.Goals as goal
 
--- src/partial_keyed_closed_set.rt:57:5
 pub loop-place-init : goal.loop-place-init
-loop-place-init c = search (rules, tests, counted_none, Counted, counted-all, counted-closed, counted-open)
+loop-place-init c = search (rules, tests, counted_none)
 
--- src/partial_keyed_closed_set.rt:57:5
 pub loop-place-preserved : goal.loop-place-preserved
 loop-place-preserved c =
     let turn = c.loop-place.invariant in
@@ -17,6 +15,5 @@ loop-place-preserved c =
       | else-tree-place-eq0 w ↦ (counted-closed turn c.loop-place-test.true w.if-tree-place-eq0.false w.unclosed-is)
     ]
 
--- src/partial_keyed_closed_set.rt:50:1
 pub returns : goal.returns
 returns c = search (rules, tests, counted_none, Counted, counted-all, counted-closed, counted-open)

@@ -3,6 +3,5 @@ use Rattle.std.proofs.Common.{rules}
 use Rattle.tree.proofs.Goals.{solution-in}
 use Rattle.tree.proofs.partial_keyed_closed_set.solution_cost.Goals as goal
 
--- src/partial_keyed_closed_set.rt:106:1
 pub returns : goal.returns
 returns c = search (rules, tests, solution-in)

@@ -3,7 +3,6 @@ use Rattle.std.proofs.Common.{rules}
 use Rattle.text.specs.Read.{line_faults}
 use Rattle.text.proofs.counts.Counts.check.Goals as goal
 
--- src/counts.rt:33:5
 pub returns-in-Illegal : goal.returns-in-Illegal
 unfolding line_faults
 returns-in-Illegal c = search (rules, tests)
