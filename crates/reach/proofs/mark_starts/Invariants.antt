@@ -1,10 +1,5 @@
-use Rattle.std.proofs.Common.{◌-◌, ◌≡◌, ◌<◌, replicate, ℕ, ◌+◌, ◌*◌, ◌≤◌, length}
-use Rattle.model.specs.Limits.{vertex_limit}
-use Rattle.layout.specs.Layout.{vertices_in, edges_in}
-use Rattle.layout.specs.Read.{graph_in, read_cache}
-use Rattle.layout.specs.Held.{Held}
-use Rattle.reach.specs.Reach.{ReachedIs}
-use Rattle.reach.specs.Walk.{Listed, MarksOne, Begun, CanMarkEnds, MarksEnds}
+use Rattle.std.proofs.Common.{◌-◌}
+use Rattle.layout.specs.Layout.{edges_in}
 use Rattle.reach.proofs.Starts.{Starting}
 use Rattle.reach.proofs.mark_starts.Given as goal
 

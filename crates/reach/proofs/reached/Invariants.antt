@@ -1,10 +1,5 @@
-use Rattle.std.proofs.Common.{◌-◌, ◌≡◌, ◌<◌, replicate, ℕ, ◌+◌, ◌*◌, ◌≤◌, length}
+use Rattle.std.proofs.Common.{◌-◌}
 use Rattle.model.specs.Limits.{vertex_limit}
-use Rattle.layout.specs.Layout.{vertices_in, edges_in}
-use Rattle.layout.specs.Read.{graph_in, read_cache}
-use Rattle.layout.specs.Held.{Held}
-use Rattle.reach.specs.Reach.{ReachedIs}
-use Rattle.reach.specs.Walk.{Listed, MarksOne, Begun, CanMarkEnds, MarksEnds}
 use Rattle.reach.proofs.Taken.{Taking}
 use Rattle.reach.proofs.reached.Given as goal
 

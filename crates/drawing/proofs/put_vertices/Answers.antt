@@ -1,0 +1,18 @@
+use Rattle.std.proofs.Common.{arith, rules}
+use Rattle.drawing.proofs.Joined.{lines_start, lines-room, lines_next}
+use Rattle.drawing.proofs.put_vertices.Goals as goal
+
+-- src/lib.rt:91:5
+pub loop-v-init : goal.loop-v-init
+loop-v-init c = search (rules, lines_start)
+
+-- src/lib.rt:92:9
+pub put_vertex-end-requires : goal.put_vertex-end-requires
+put_vertex-end-requires c =
+    let below = rw c.header-vertices.ensures at c.loop-v-test.true in
+    (c.requires.0, (below, lines-room _ _ _ _ _ below c.loop-v.invariant.1 c.loop-v.invariant.2 c.requires.1))
+
+-- src/lib.rt:91:5
+pub loop-v-preserved : goal.loop-v-preserved
+loop-v-preserved c =
+    (omega arith, omega arith, lines_next _ _ _ _ (omega (arith, c.requires.1)) c.loop-v.invariant.2 c.put_vertex-end.ensures)
