@@ -1,14 +1,10 @@
-use Rattle.std.proofs.Common.{tests}
-use Rattle.std.proofs.Common.{rules, ◌≡◌, ℕ, ◌+◌, ◌-◌, ◌*◌, ◌<◌, ◌≤◌, length, ◌/◌, ◌%◌, Bool, true, false, nat_eq, nat_lt, List, [], ◌∷◌, ◌++◌, slice_index_or, slice_set, bit_and, bit_or, Fits, w8, w32, w64, Bor, MutBor}
-use Rattle.dijkstra.specs.Calls.{Initializing, Stepping, Retracing}
+use Rattle.std.proofs.Common.{rules, ◌∙◌, sym}
 use Rattle.sound.proofs.Facts.{sound-words-at}
-use Rattle.dijkstra.proofs.Initialized.{not_sound, on-sound}
+use Rattle.dijkstra.proofs.Initialized.{on-sound}
 use Rattle.dijkstra.proofs.initialize.Goals as goal
 
--- src/lib.rt:18:5
 pub initialize-requires : goal.initialize-requires
-initialize-requires c = search (rules, tests, not_sound, on-sound, sound-words-at)
+initialize-requires c = search (rules, sound-words-at)
 
--- src/lib.rt:12:1
 pub returns : goal.returns
-returns c = ?
+returns c = on-sound _ _ _ (sym c.is_sound.ensures ∙ c.if-not-is_sound.false) c.initialize.result c.initialize.new.words c.initialize.ensures
