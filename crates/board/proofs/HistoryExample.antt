@@ -1,7 +1,7 @@
 -- A whole list of the board's calls, computed: 01's chart opened from its bytes, the search of order 0 opened, stepped three times and retraced,
 -- its record kept in words; between its steps a call is handed words that are no record, and refused.
 -- Assumes nothing.
-use mathlib.Core.Path.{◌≡◌, refl, sym, subst}
+use mathlib.Core.Path.{refl, sym, subst}
 use mathlib.Core.List.{List, [], ◌∷◌}
 use Prim.Native.Nat.{ℕ, ◌≤◌}
 use native.Mathlib.Omega.{arith}

@@ -1,6 +1,6 @@
 -- The turns of a search's entries in the words of a cache: what the code promises.
 -- Assumes nothing.
-use Rattle.std.specs.Prelude.{◌≡◌, Bool, true, false, List, ℕ, ◌+◌, ◌<◌, ◌≤◌, ltb, length, get_or, set}
+use Rattle.std.specs.Prelude.{◌≡◌, Bool, true, false, List, ℕ, ◌<◌, ltb, length, get_or, set}
 use Rattle.model.specs.declared.CostBound.{CostBound}
 use Rattle.model.specs.declared.CostBound.TheVariants.{Unbounded, Bound}
 use Rattle.model.specs.declared.KnownLen.{KnownLen}

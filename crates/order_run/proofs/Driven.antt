@@ -16,7 +16,7 @@ use Rattle.model.specs.Demands.{Act, own_step, own_retrace, Event, stepped, retr
 use Rattle.model.specs.Solve.{is_waiting, last_reply, AfterSteps, steps_from}
 use Rattle.model.proofs.Replies.{answered-refused}
 use Rattle.model.proofs.Solve.{is-waiting, steps-cases}
-use Rattle.model.proofs.Keeps.{KeptCache, kept-sound, accepted-kept, step_keeps}
+use Rattle.model.proofs.Keeps.{kept-sound, accepted-kept, step_keeps}
 use Rattle.order_lines.specs.Answers.{answer_line}
 use Rattle.order_run.specs.Orders.{line_for, shown_text, driven_text, text_of, RightLine}
 use Rattle.order_run.proofs.Bounds.{moves-few}

@@ -4,7 +4,6 @@ use mathlib.Core.Path.{◌≡◌, refl, sym, ap, ◌∙◌, subst}
 use mathlib.Core.Bool.{Bool, true, false}
 use mathlib.Core.List.{List}
 use Prim.Native.Nat.{ℕ, ◌+◌, ◌-◌, ◌*◌, ◌≤◌}
-use native.Mathlib.Nat.{sub-zero}
 use native.Mathlib.Omega.{arith}
 use borrow.Author.Tests.{ltb-false}
 use lib.Dec.{ltb}
@@ -13,7 +12,7 @@ use lib.Seq.{take-append_seam}
 use Rattle.model.specs.declared.Refusal.{Refusal}
 use Rattle.model.specs.declared.RetraceAnswer.{RetraceAnswer}
 use Rattle.model.specs.declared.RetraceAnswer.TheVariants.{Moves, Refused}
-use Rattle.model.specs.Answers.{Reply, answered, refused, number, retrace_reply}
+use Rattle.model.specs.Answers.{answered, refused, number, retrace_reply}
 use Rattle.model.specs.Graph.{Direction}
 use Rattle.model.specs.Tree.{Node}
 use Rattle.model.specs.Sound.{tree}

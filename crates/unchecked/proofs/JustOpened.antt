@@ -18,7 +18,7 @@ use Rattle.model.specs.Lists.{keep, mem}
 use Rattle.model.specs.Answers.{answered, initialize_reply}
 use Rattle.model.specs.Graph.{Accepted, Direction, forward, backward, edge_count}
 use Rattle.model.specs.Tree.{Tree}
-use Rattle.model.specs.Search.{new_search, roots_of, goals_of}
+use Rattle.model.specs.Search.{roots_of, goals_of}
 use Rattle.model.specs.Calls.{Cache, AfterInitialize, planted_for, initialize_by, initialize}
 use Rattle.model.specs.Demands.{distinct}
 use Rattle.model.proofs.Faults.{MayInitialize, may-initialize, no-fault}

@@ -1,18 +1,10 @@
 use Rattle.std.proofs.Common.{tests}
-use Rattle.std.proofs.Common.{rules, ◌≡◌, cond, ◌≤◌, length, ℕ, ◌+◌, ◌-◌, ◌*◌, ◌<◌, ◌/◌, ◌%◌, Bool, true, false, nat_eq, nat_lt, List, [], ◌∷◌, ◌++◌, slice_index_or, slice_set, bit_and, bit_or, Fits, w8, w32, w64, Bor, MutBor}
-use Rattle.model.specs.Answers.{step_reply}
-use Rattle.layout.specs.Sound.{sound_wordsb}
-use Rattle.search_words.specs.Record.{record_words}
-use Rattle.board.specs.Board.{answer_number, answer_numbers, step_waits}
-use Rattle.board.specs.Board.{strange as strange_words}
-use Rattle.board.specs.Board.{Kept, sizedb, WordsNeeded, OpenCalled, InitializeCalled, PlanCalled, StepCalled, SolveCalled, RetraceCalled}
-use Rattle.board.proofs.Told.{initialize-short, initialize-told, initialize-refused}
+use Rattle.std.proofs.Common.{rules}
+use Rattle.board.proofs.Told.{initialize-told, initialize-refused}
 use Rattle.board.proofs.perillabeam_initialize.Goals as goal
 
--- src/lib.rt:69:1
 pub returns-in-Initialized : goal.returns-in-Initialized
-returns-in-Initialized c = search (rules, tests, initialize-short, initialize-told, initialize-refused)
+returns-in-Initialized c = search (rules, tests, initialize-told)
 
--- src/lib.rt:69:1
 pub returns-in-Refused : goal.returns-in-Refused
-returns-in-Refused c = search (rules, tests, initialize-short, initialize-told, initialize-refused)
+returns-in-Refused c = search (rules, tests, initialize-refused)

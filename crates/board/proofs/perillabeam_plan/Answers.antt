@@ -1,14 +1,7 @@
 use Rattle.std.proofs.Common.{tests}
-use Rattle.std.proofs.Common.{rules, ◌≡◌, cond, ◌≤◌, length, ℕ, ◌+◌, ◌-◌, ◌*◌, ◌<◌, ◌/◌, ◌%◌, Bool, true, false, nat_eq, nat_lt, List, [], ◌∷◌, ◌++◌, slice_index_or, slice_set, bit_and, bit_or, Fits, w8, w32, w64, Bor, MutBor}
-use Rattle.model.specs.Answers.{step_reply}
-use Rattle.layout.specs.Sound.{sound_wordsb}
-use Rattle.search_words.specs.Record.{record_words}
-use Rattle.board.specs.Board.{answer_number, answer_numbers, step_waits}
-use Rattle.board.specs.Board.{strange as strange_words}
-use Rattle.board.specs.Board.{Kept, sizedb, WordsNeeded, OpenCalled, InitializeCalled, PlanCalled, StepCalled, SolveCalled, RetraceCalled}
-use Rattle.board.proofs.Told.{plan-short, plan-told}
+use Rattle.std.proofs.Common.{rules}
+use Rattle.board.proofs.Told.{plan-told}
 use Rattle.board.proofs.perillabeam_plan.Goals as goal
 
--- src/lib.rt:137:1
 pub returns : goal.returns
-returns c = search (rules, tests, plan-short, plan-told)
+returns c = search (rules, tests, plan-told)

@@ -2,22 +2,17 @@ use Rattle.std.proofs.Common.{rules}
 use Rattle.cache.proofs.Opening.{open-direction, open-no-slot, open-many-slots, open-fault, open-sizes}
 use Rattle.cache.proofs.open.Goals as goal
 
--- src/lib.rt:22:9
 pub returns-then-direction-gt1 : goal.returns-then-direction-gt1
 returns-then-direction-gt1 c = search (rules, open-direction)
 
--- src/lib.rt:25:9
 pub returns-then-slots-eq0 : goal.returns-then-slots-eq0
 returns-then-slots-eq0 c = search (rules, open-no-slot)
 
--- src/lib.rt:28:9
 pub returns-then-slots-gt-MAX_SLOTS : goal.returns-then-slots-gt-MAX_SLOTS
 returns-then-slots-gt-MAX_SLOTS c = search (rules, open-many-slots)
 
--- src/lib.rt:18:1
 pub returns-in-Fault : goal.returns-in-Fault
 returns-in-Fault c = search (rules, open-fault)
 
--- src/lib.rt:18:1
 pub returns-in-Sizes : goal.returns-in-Sizes
 returns-in-Sizes c = search (rules, open-sizes)

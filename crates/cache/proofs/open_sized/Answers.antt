@@ -2,22 +2,17 @@ use Rattle.std.proofs.Common.{rules}
 use Rattle.cache.proofs.Opening.{can-sized, open-short, open-fits}
 use Rattle.cache.proofs.open_sized.Goals as goal
 
--- src/lib.rt:56:9
 pub words_needed-needed-requires : goal.words_needed-needed-requires
 words_needed-needed-requires c = search (rules, can-sized)
 
--- src/lib.rt:58:9
 pub returns-then-words-needed : goal.returns-then-words-needed
 returns-then-words-needed c = search (rules, open-short)
 
--- src/lib.rt:60:5
 pub write_header-requires : goal.write_header-requires
 write_header-requires c = search (rules, can-sized)
 
--- src/lib.rt:62:9
 pub slots_at-trees-requires : goal.slots_at-trees-requires
 slots_at-trees-requires c = search (rules, can-sized)
 
--- src/lib.rt:44:1
 pub returns : goal.returns
 returns c = search (rules, open-fits)

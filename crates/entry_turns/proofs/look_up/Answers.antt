@@ -1,15 +1,8 @@
 use Rattle.std.proofs.Common.{tests}
-use Rattle.std.proofs.Common.{rules, ◌≡◌, ℕ, ◌+◌, ◌-◌, ◌*◌, ◌<◌, ◌≤◌, length, ◌/◌, ◌%◌, Bool, true, false, nat_eq, nat_lt, List, [], ◌∷◌, ◌++◌, slice_index_or, slice_set, bit_and, bit_or, Fits, w8, w32, w64, Bor, MutBor}
-use Rattle.model.specs.Search.{grown, cheaper}
-use Rattle.layout.specs.Read.{read_cache}
-use Rattle.tree.specs.Tree.{Formed}
-use Rattle.grow.specs.Grow.{growth_of}
-use Rattle.sound.specs.Facts.{InUse}
-use Rattle.entry_turns.specs.Turn.{CanStep, Steps, tree_at, best_entry, CanBound, bound_in, CanTurn, turn_of, Turns, LooksUp, CanLookUp, looks_up, KnownIs, UnderIs, Remembers, CanRecord, found_of, CanCompare, dearer_in}
+use Rattle.std.proofs.Common.{rules}
 use Rattle.sound.proofs.InUse.{has-slot}
 use Rattle.entry_turns.proofs.Entries.{can-look-up, looked-up}
 use Rattle.entry_turns.proofs.look_up.Goals as goal
 
--- src/lib.rt:122:1
 pub returns : goal.returns
 returns c = search (rules, tests, can-look-up, has-slot, looked-up)

@@ -1,18 +1,10 @@
 use Rattle.std.proofs.Common.{tests}
-use Rattle.std.proofs.Common.{rules, ◌≡◌, ℕ, ◌+◌, ◌-◌, ◌*◌, ◌<◌, ◌≤◌, length, ◌/◌, ◌%◌, Bool, true, false, nat_eq, nat_lt, List, [], ◌∷◌, ◌++◌, slice_index_or, slice_set, bit_and, bit_or, Fits, w8, w32, w64, Bor, MutBor}
-use Rattle.model.specs.Search.{grown, cheaper}
-use Rattle.layout.specs.Read.{read_cache}
-use Rattle.tree.specs.Tree.{Formed}
-use Rattle.grow.specs.Grow.{growth_of}
-use Rattle.sound.specs.Facts.{InUse}
-use Rattle.entry_turns.specs.Turn.{CanStep, Steps, tree_at, best_entry, CanBound, bound_in, CanTurn, turn_of, Turns, LooksUp, CanLookUp, looks_up, KnownIs, UnderIs, Remembers, CanRecord, found_of, CanCompare, dearer_in}
+use Rattle.std.proofs.Common.{rules}
 use Rattle.entry_turns.proofs.LookedUp.{known-finds, unknown-finds}
 use Rattle.entry_turns.proofs.look_up_in.Goals as goal
 
--- src/lib.rt:135:9
 pub returns-then-is_known : goal.returns-then-is_known
 returns-then-is_known c = search (rules, tests, known-finds, unknown-finds)
 
--- src/lib.rt:130:1
 pub returns : goal.returns
 returns c = search (rules, tests, known-finds, unknown-finds)

@@ -2,7 +2,7 @@ use Rattle.std.proofs.Common.{rules, ◌≡◌, ◌∙◌, sym, ap, Bool, arith}
 use Rattle.model.specs.declared.Search.{Search}
 use Rattle.model.specs.Search.{remembered, unfinished_if}
 use Rattle.entry_turns.proofs.Held.{with_found}
-use Rattle.entry_turns.proofs.Round.{HasEntry, best-place, can-bound, bound-is, can-turn, can-record, few-tickets, rounds}
+use Rattle.entry_turns.proofs.Round.{best-place, can-bound, bound-is, can-turn, can-record, few-tickets, rounds}
 use Rattle.entry_turns.proofs.Walked.{walked_none, has-entry, goals-lent, walked-few, walked_next, walked_all}
 use Rattle.entry_turns.proofs.step_trees.Goals as goal
 use Rattle.entry_turns.proofs.step_trees.Goals.{then-r, else-r, in-Len, in_default, in-Replaces, in_default-judge, Joined-r, Joined-judge}
@@ -26,7 +26,7 @@ turn-r-requires c = search (rules, can-turn, goals-lent, has-entry)
 counted : (c : Joined-r) → c.match-known.next ≡ remembered c.loop-i.next c.loop-i.i c.turn-r.result.known
 counted c =
     elim c.match-known.branch [
-        in-Len w ↦ w.next-is ∙ w.with_known_len-next.ensures ∙ sym (ap (remembered _ _) w.in-Len.is)
+      | in-Len w ↦ w.next-is ∙ w.with_known_len-next.ensures ∙ sym (ap (remembered _ _) w.in-Len.is)
       | in_default w ↦ w.next-is ∙ sym (ap (remembered _ _) w.in_default.is)
     ]
 
@@ -34,14 +34,14 @@ marked : (c : Joined-r) → c.if-r.next ≡ unfinished_if c.turn-r.result.more c
 marked c =
     let by : Bool → Search = λ m. unfinished_if m c.match-known.next in
     elim c.if-r.branch [
-        then-r w ↦ w.next-is ∙ w.with_exhausted-next-then-r.ensures ∙ sym (ap by w.if-r.true)
+      | then-r w ↦ w.next-is ∙ w.with_exhausted-next-then-r.ensures ∙ sym (ap by w.if-r.true)
       | else-r w ↦ w.next-is ∙ sym (ap by w.if-r.false)
     ]
 
 found : (c : Joined-judge) → c.match-judge.next ≡ with_found c.if-r.next c.loop-i.i c.judge.result
 found c =
     elim c.match-judge.branch [
-        in-Replaces w ↦ w.next-is ∙ w.with_find-next.ensures ∙ sym (ap (with_found _ _) w.in-Replaces.is)
+      | in-Replaces w ↦ w.next-is ∙ w.with_find-next.ensures ∙ sym (ap (with_found _ _) w.in-Replaces.is)
       | in_default-judge w ↦ w.next-is ∙ sym (ap (with_found _ _) w.in_default-judge.is)
     ]
 

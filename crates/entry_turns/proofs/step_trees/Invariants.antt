@@ -1,10 +1,4 @@
-use Rattle.std.proofs.Common.{◌-◌, ◌≡◌, ℕ, ◌+◌, ◌*◌, ◌<◌, ◌≤◌, length}
-use Rattle.model.specs.Search.{grown, cheaper}
-use Rattle.layout.specs.Read.{read_cache}
-use Rattle.tree.specs.Tree.{Formed}
-use Rattle.grow.specs.Grow.{growth_of}
-use Rattle.sound.specs.Facts.{InUse}
-use Rattle.entry_turns.specs.Turn.{CanStep, Steps, tree_at, best_entry, CanBound, bound_in, CanTurn, turn_of, Turns, LooksUp, CanLookUp, looks_up, KnownIs, UnderIs, Remembers, CanRecord, found_of, CanCompare, dearer_in}
+use Rattle.std.proofs.Common.{◌-◌}
 use Rattle.entry_turns.proofs.Walked.{Walked}
 use Rattle.entry_turns.proofs.step_trees.Given as goal
 

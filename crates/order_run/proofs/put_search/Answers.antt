@@ -1,14 +1,7 @@
 use Rattle.std.proofs.Common.{tests}
-use Rattle.std.proofs.Common.{rules, ◌≡◌, ℕ, ◌+◌, ◌-◌, ◌*◌, ◌<◌, ◌≤◌, length, ◌/◌, ◌%◌, Bool, true, false, nat_eq, nat_lt, List, [], ◌∷◌, ◌++◌, slice_index_or, slice_set, bit_and, bit_or, Fits, w8, w32, w64, Bor, MutBor}
-use Rattle.model.specs.Answers.{step_reply}
-use Rattle.sound.specs.Facts.{SoundWords}
-use Rattle.unchecked.specs.Shown.{Shows}
-use Rattle.put_text.specs.Puts.{Puts}
-use Rattle.order_run.specs.Orders.{answer_of, refused_order}
-use Rattle.order_run.specs.Run.{listed, CanPut, CanPutShown, InArrays, PathRoom, shown_line, Ran, RanLine, CalledBoth}
-use Rattle.order_run.proofs.Texts.{lists-lent, ran-search, counts-fit, run-shows}
+use Rattle.std.proofs.Common.{rules}
+use Rattle.order_run.proofs.Texts.{lists-lent, ran-search}
 use Rattle.order_run.proofs.put_search.Goals as goal
 
--- src/lib.rt:62:1
 pub returns : goal.returns
-returns c = search (rules, tests, counts-fit, lists-lent, ran-search, run-shows)
+returns c = search (rules, tests, lists-lent, ran-search)

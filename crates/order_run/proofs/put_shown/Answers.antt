@@ -1,16 +1,9 @@
 use Rattle.std.proofs.Common.{tests}
-use Rattle.std.proofs.Common.{rules, ◌≡◌, ℕ, ◌+◌, ◌-◌, ◌*◌, ◌<◌, ◌≤◌, length, ◌/◌, ◌%◌, Bool, true, false, nat_eq, nat_lt, List, [], ◌∷◌, ◌++◌, slice_index_or, slice_set, bit_and, bit_or, Fits, w8, w32, w64, Bor, MutBor}
-use Rattle.model.specs.Answers.{step_reply}
-use Rattle.sound.specs.Facts.{SoundWords}
-use Rattle.unchecked.specs.Shown.{Shows}
-use Rattle.put_text.specs.Puts.{Puts}
-use Rattle.order_run.specs.Orders.{answer_of, refused_order}
-use Rattle.order_run.specs.Run.{listed, CanPut, CanPutShown, InArrays, PathRoom, shown_line, Ran, RanLine, CalledBoth}
+use Rattle.std.proofs.Common.{rules}
 use Rattle.unchecked.proofs.ShownNode.{node-shown}
 use Rattle.order_run.proofs.Sizes.{path-fits, path-text, short-text}
 use Rattle.order_run.proofs.Texts.{puts-as}
 use Rattle.order_run.proofs.put_shown.Goals as goal
 
--- src/lib.rt:107:1
 pub returns-in-Moves : goal.returns-in-Moves
 returns-in-Moves c = search (rules, tests, node-shown, path-fits, path-text, puts-as, short-text)

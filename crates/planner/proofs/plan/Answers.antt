@@ -1,6 +1,6 @@
 use Rattle.std.proofs.Common.{rules, ◌∙◌, sym}
 use Rattle.sound.proofs.Facts.{sound-words-at}
-use Rattle.planner.proofs.Planned.{not_sound, run-shows, has-run}
+use Rattle.planner.proofs.Planned.{not_sound, has-run}
 use Rattle.planner.proofs.plan.Goals as goal
 
 pub returns-then-not-is_sound : goal.returns-then-not-is_sound
