@@ -1,0 +1,22 @@
+use Rattle.std.proofs.Common.{tests}
+use Rattle.std.proofs.Common.{rules, ◌≡◌, cond, ◌≤◌, length, replicate, ℕ, ◌+◌, ◌-◌, ◌*◌, ◌<◌, ◌/◌, ◌%◌, Bool, true, false, nat_eq, nat_lt, List, [], ◌∷◌, ◌++◌, slice_index_or, slice_set, bit_and, bit_or, Fits, w8, w32, w64, Bor, MutBor}
+use Rattle.model.specs.Answers.{answered, status, step_reply}
+use Rattle.text.specs.Read.{read_graph}
+use Rattle.layout.specs.Read.{direction_of}
+use Rattle.put_text.specs.Puts.{Puts}
+use Rattle.order_run.specs.Run.{listed, InArrays}
+use Rattle.draw.specs.Picture.{drawn_text, picture_text, order_path, path_in, words_in, found_by, Few, FoundIs}
+use Rattle.draw.proofs.Pictures.{plan-lent, find-refused, find-few, find-opened, found-is}
+use Rattle.draw.proofs.picture.find_in.Goals as goal
+
+-- src/picture.rt:90:9
+pub returns-in-Refused : goal.returns-in-Refused
+returns-in-Refused c = ?
+
+-- src/picture.rt:96:5
+pub path_found-requires : goal.path_found-requires
+path_found-requires c = search (rules, tests, find-few, find-opened, find-refused, found-is, plan-lent)
+
+-- src/picture.rt:82:1
+pub returns : goal.returns
+returns c = ?
