@@ -1,22 +1,25 @@
-use Rattle.std.proofs.Common.{tests}
-use Rattle.std.proofs.Common.{rules, ◌≡◌, cond, ◌≤◌, length, replicate, ℕ, ◌+◌, ◌-◌, ◌*◌, ◌<◌, ◌/◌, ◌%◌, Bool, true, false, nat_eq, nat_lt, List, [], ◌∷◌, ◌++◌, slice_index_or, slice_set, bit_and, bit_or, Fits, w8, w32, w64, Bor, MutBor}
-use Rattle.model.specs.Answers.{answered, status, step_reply}
-use Rattle.text.specs.Read.{read_graph}
-use Rattle.layout.specs.Read.{direction_of}
-use Rattle.put_text.specs.Puts.{Puts}
-use Rattle.order_run.specs.Run.{listed, InArrays}
-use Rattle.draw.specs.Picture.{drawn_text, picture_text, order_path, path_in, words_in, found_by, Few, FoundIs}
+use Rattle.std.proofs.Common.{rules, ◌∙◌, ap, subst, List, ℕ, length}
+use Rattle.std.proofs.Math.ListN.{length-replicate}
+use Rattle.model.specs.Answers.{Reply}
+use Rattle.order_run.specs.Run.{listed}
+use Rattle.draw.specs.Picture.{found_by, FoundIs}
 use Rattle.draw.proofs.Pictures.{plan-lent, find-refused, find-few, find-opened, found-is}
 use Rattle.draw.proofs.picture.find_in.Goals as goal
 
--- src/picture.rt:90:9
 pub returns-in-Refused : goal.returns-in-Refused
-returns-in-Refused c = ?
+returns-in-Refused c = find-refused c.args.chart.now c.args.direction c.requires.0 c.open.new.words _ _ _ _ c.open.ensures c.in-Refused.is
 
--- src/picture.rt:96:5
 pub path_found-requires : goal.path_found-requires
-path_found-requires c = search (rules, tests, find-few, find-opened, find-refused, found-is, plan-lent)
+path_found-requires c = search (rules, find-few)
 
--- src/picture.rt:82:1
 pub returns : goal.returns
-returns c = ?
+returns c =
+    let a = c.args in
+    let r = c.plan.result in
+    let q = c.plan.new.path in
+    let starts = listed a.starts in
+    let goals = listed a.goals in
+    let few = find-few a.chart.now a.direction c.requires.0 c.open.new.words starts goals a.path.now c.requires.1.1 r _ _ (plan-lent a.starts a.goals c.plan.ensures) in
+    let is = find-opened a.chart.now a.direction c.requires.0 c.open.new.words starts goals a.path.now c.requires.1.1 r _ _ (plan-lent a.starts a.goals c.plan.ensures) c.open.ensures c.in_default.is in
+    let long = c.plan.auto.path ∙ ap length c.requires.1.1 ∙ length-replicate {A = ℕ} 2047 0 in
+    rw c.path_found.ensures (subst (λ (x : Reply (List ℕ)). FoundIs (found_by r.answer r.has_path) q x) is (found-is r.answer r.has_path q long few))

@@ -1,22 +1,17 @@
-use Rattle.std.proofs.Common.{tests}
-use Rattle.std.proofs.Common.{rules, ◌≡◌, cond, ◌≤◌, length, replicate, ℕ, ◌+◌, ◌-◌, ◌*◌, ◌<◌, ◌/◌, ◌%◌, Bool, true, false, nat_eq, nat_lt, List, [], ◌∷◌, ◌++◌, slice_index_or, slice_set, bit_and, bit_or, Fits, w8, w32, w64, Bor, MutBor}
-use Rattle.model.specs.Answers.{answered, status, step_reply}
-use Rattle.text.specs.Read.{read_graph}
-use Rattle.layout.specs.Read.{direction_of}
-use Rattle.put_text.specs.Puts.{Puts}
-use Rattle.order_run.specs.Run.{listed, InArrays}
-use Rattle.draw.specs.Picture.{drawn_text, picture_text, order_path, path_in, words_in, found_by, Few, FoundIs}
 use Rattle.draw.proofs.Pictures.{drawn-put, refused-drawn, never-short}
 use Rattle.draw.proofs.picture.put_drawn.Goals as goal
 
--- src/picture.rt:51:1
 pub returns-in-Drawn : goal.returns-in-Drawn
-returns-in-Drawn c = ?
+returns-in-Drawn c = drawn-put c.args.chart.now c.args.path.now c.args.out.now c.draw.new.out _ (rw c.in-Drawn.is at c.draw.ensures)
 
--- src/picture.rt:51:1
 pub returns-in-Refused : goal.returns-in-Refused
-returns-in-Refused c = ?
+returns-in-Refused c =
+    let a = c.args in
+    let r = refused-drawn a.chart.now a.path.now a.out.now c.draw.new.out c.in-Refused.refusal c.in-Refused.line (rw c.in-Refused.is at c.draw.ensures) in
+    let put = rw (r.0, c.number.ensures) at c.put_refused.ensures in
+    rw r.1 put
 
--- src/picture.rt:51:1
 pub returns-in-ShortDrawing : goal.returns-in-ShortDrawing
-returns-in-ShortDrawing c = ?
+returns-in-ShortDrawing c =
+    let a = c.args in
+    absurd (never-short a.chart.now a.path.now a.out.now c.draw.new.out (rw c.in-ShortDrawing.is at c.draw.ensures) c.requires)
