@@ -1,5 +1,5 @@
-// The edges of a vertex, one after the other: the Rust's `SimpleGraphEdges`. Functions over a struct that holds a reference are
-// proved by hand; `next_at` has the work, and callers use `next_edge`, whose parameters are a plain slice and numbers.
+// The edges of a vertex, one after the other: the Rust's `SimpleGraphEdges`. `next_at` has the work, and callers use
+// `next_edge`, whose parameters are a plain slice and numbers.
 // Ported from open-rmf/mapf (mapf/src: graph/simple.rs) and changed; Apache License 2.0, see NOTICE.
 
 #![tactic(auto)]

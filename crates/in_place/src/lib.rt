@@ -1,5 +1,5 @@
-// The step of a search that is lent by `&mut` and changed in place. A function over a reference to a struct is proved by hand, so the
-// entry only moves whole values and calls functions that are covered.
+// The step of a search that is lent by `&mut` and changed in place. The entry only moves whole values: it
+// copies the record out, calls the step by value and stores what comes back.
 
 #![tactic(auto)]
 
@@ -28,7 +28,7 @@ pub fn step_in_place(words: &mut [u32], search: &mut Search) -> StepReport
     report_of(stepped)
 }
 
-// For callers that hold the record by value: they need no proof by hand.
+// For callers that hold the record by value.
 pub fn step_lent(words: &mut [u32], search: Search) -> Stepped
     ensures { Stepping words.old search result words.new }
 {

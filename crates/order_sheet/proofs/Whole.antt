@@ -18,7 +18,7 @@ use Rattle.model.specs.Answers.{Reply, answered, refused, number, open_reply}
 use Rattle.model.specs.Graph.{Graph, backward, vertex_count, edge_count}
 use Rattle.model.specs.Calls.{first_fault, opened}
 use Rattle.model.proofs.Replies.{answered-refused, answered-is}
-use Rattle.text.specs.Bytes.{place, parted}
+use Rattle.text.specs.Bytes.{place}
 use Rattle.text.specs.Read.{read_graph}
 use Rattle.text.proofs.Parted.{parted-cut, parted-whole, parted-some}
 use Rattle.text.proofs.Parts.{rest, part-back}
@@ -39,7 +39,7 @@ use Rattle.order_run.specs.Orders.{refused_order}
 use Rattle.order_run.specs.Lent.{lent_words, lent_slots}
 use Rattle.order_sheet.specs.Whole.{title, Caches, PrintedOrder, printed_order_by, printed_order, lines_from, lines_in, lines_text, orders_text, chart_text, fresh_both, is_overlong, files_text, sheet_text}
 use Rattle.order_run.specs.Run.{RanBy, RanLine}
-use Rattle.order_sheet.specs.Sheet.{caches_in, CanGoOn, PutsPart, RefusedPart, Begins, PutsNext, WrittenSoFar, Parts, no_more, one_more, WritesSheet}
+use Rattle.order_sheet.specs.Sheet.{caches_in, CanGoOn, RefusedPart, Begins, PutsNext, WrittenSoFar, Parts, no_more, one_more, WritesSheet}
 use Rattle.order_run.proofs.Within.{put-within}
 use Rattle.order_run.proofs.Called.{called-both, called-after}
 
