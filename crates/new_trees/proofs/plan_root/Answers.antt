@@ -1,13 +1,12 @@
-use Rattle.std.proofs.Common.{tests}
 use Rattle.std.proofs.Common.{rules}
 use Rattle.new_trees.proofs.PlanRoot.{plan-skips, plan-shares, plan-plants}
 use Rattle.new_trees.proofs.plan_root.Goals as goal
 
 pub returns-then-root_cost : goal.returns-then-root_cost
-returns-then-root_cost c = search (rules, tests, plan-plants, plan-shares, plan-skips)
+returns-then-root_cost c = search (rules, plan-skips)
 
 pub returns-then-slot-ne0 : goal.returns-then-slot-ne0
-returns-then-slot-ne0 c = search (rules, tests, plan-plants, plan-shares, plan-skips)
+returns-then-slot-ne0 c = search (rules, plan-shares)
 
 pub returns : goal.returns
-returns c = search (rules, tests, plan-plants)
+returns c = search (rules, plan-plants)

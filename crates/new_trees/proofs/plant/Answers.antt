@@ -1,10 +1,9 @@
-use Rattle.std.proofs.Common.{tests}
 use Rattle.std.proofs.Common.{rules}
 use Rattle.new_trees.proofs.Planting.{root-word, plant-ends}
 use Rattle.new_trees.proofs.plant.Goals as goal
 
 pub root_cost-cost-requires : goal.root_cost-cost-requires
-root_cost-cost-requires c = search (rules, tests, root-word)
+root_cost-cost-requires c = search (rules, root-word)
 
 pub returns : goal.returns
-returns c = search (rules, tests, plant-ends)
+returns c = search (rules, plant-ends)

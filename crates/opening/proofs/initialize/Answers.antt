@@ -17,7 +17,7 @@ pub returns-then-not-are_vertices-2 : goal.returns-then-not-are_vertices-2
 returns-then-not-are_vertices-2 c = search (rules, tests, backward-lists, can-open, forward-lists, goal-past, goals-over, opened, start-past, starts-over)
 
 pub open_search-requires : goal.open_search-requires
-open_search-requires c = search (rules, tests, backward-lists, can-open, forward-lists, goal-past, goals-over, opened, start-past, starts-over)
+open_search-requires c = search (rules, can-open)
 
 pub returns-then-words-eq0 : goal.returns-then-words-eq0
 returns-then-words-eq0 c =
@@ -27,7 +27,7 @@ returns-then-words-eq0 c =
     lists.0 lists.1 _ _ c.open_search.ensures
 
 pub open_search-requires-2 : goal.open_search-requires-2
-open_search-requires-2 c = search (rules, tests, backward-lists, can-open, forward-lists, goal-past, goals-over, opened, start-past, starts-over)
+open_search-requires-2 c = search (rules, can-open)
 
 pub returns : goal.returns
 returns c =

@@ -1,13 +1,12 @@
-use Rattle.std.proofs.Common.{tests}
 use Rattle.std.proofs.Common.{rules}
 use Rattle.opening.proofs.Opened.{no-slots, can-plant, is-opened}
 use Rattle.opening.proofs.open_search.Goals as goal
 
 pub returns-then-unused-count : goal.returns-then-unused-count
-returns-then-unused-count c = search (rules, tests, no-slots)
+returns-then-unused-count c = search (rules, no-slots)
 
 pub plant_all-requires : goal.plant_all-requires
-plant_all-requires c = search (rules, tests, can-plant)
+plant_all-requires c = search (rules, can-plant)
 
 pub returns : goal.returns
-returns c = search (rules, tests, is-opened)
+returns c = search (rules, is-opened)

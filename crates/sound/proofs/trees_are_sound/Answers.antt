@@ -1,19 +1,18 @@
-use Rattle.std.proofs.Common.{tests}
 use Rattle.std.proofs.Common.{rules}
-use Rattle.sound.proofs.Cache.{trees-header, trees-sized, slots-few, trees-few, trees-in, trees-fail, trees-last, spare-from, spare-fits, spare-small}
+use Rattle.sound.proofs.Cache.{trees-in, trees-fail, trees-last, spare-from}
 use Rattle.sound.proofs.trees_are_sound.Goals as goal
 
 pub trees_in_use_are_sound-requires : goal.trees_in_use_are_sound-requires
-trees_in_use_are_sound-requires c = search (rules, tests, trees-in)
+trees_in_use_are_sound-requires c = search (rules, trees-in)
 
 pub returns-then-not-trees_in_use_are_sound : goal.returns-then-not-trees_in_use_are_sound
-returns-then-not-trees_in_use_are_sound c = search (rules, tests, spare-small, spare-fits, trees-header, trees-in, trees-fail, trees-sized, trees-few, slots-few, spare-from, trees-last)
+returns-then-not-trees_in_use_are_sound c = search (rules, trees-fail)
 
 pub slice_bounds-is_zero-count : goal.slice_bounds-is_zero-count
-slice_bounds-is_zero-count c = search (rules, tests, spare-from)
+slice_bounds-is_zero-count c = search (rules, spare-from)
 
 pub slice_bounds-is_zero-start : goal.slice_bounds-is_zero-start
-slice_bounds-is_zero-start c = search (rules, tests, spare-from)
+slice_bounds-is_zero-start c = search (rules, spare-from)
 
 pub returns : goal.returns
-returns c = search (rules, tests, spare-small, spare-fits, trees-header, trees-in, trees-fail, trees-sized, trees-few, slots-few, spare-from, trees-last)
+returns c = search (rules, trees-last)

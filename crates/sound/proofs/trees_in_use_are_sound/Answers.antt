@@ -7,16 +7,16 @@ pub loop-i-init : goal.loop-i-init
 loop-i-init c = search (rules, tests, starts_none, has-slot, can-check, tree-fails, has-start, has-mark, start-twice, trees-more, starts-marked, trees-all, trees-none)
 
 pub returns-then-not-tree_is_sound : goal.returns-then-not-tree_is_sound
-returns-then-not-tree_is_sound c = search (rules, tests, tree-fails, start-twice)
+returns-then-not-tree_is_sound c = search (rules, tree-fails)
 
 pub bounds-starts-start : goal.bounds-starts-start
-bounds-starts-start c = search (rules, tests, has-mark)
+bounds-starts-start c = search (rules, has-mark)
 
 pub returns-then-starts-start : goal.returns-then-starts-start
-returns-then-starts-start c = search (rules, tests, tree-fails, start-twice)
+returns-then-starts-start c = search (rules, start-twice)
 
 pub bounds-starts-start-in-loop-i : goal.bounds-starts-start-in-loop-i
-bounds-starts-start-in-loop-i c = search (rules, tests, has-mark)
+bounds-starts-start-in-loop-i c = search (rules, has-mark)
 
 pub loop-i-preserved : goal.loop-i-preserved
 loop-i-preserved c = search (rules, tests, starts_none, has-slot, can-check, tree-fails, has-start, has-mark, start-twice, trees-more, starts-marked, trees-all, trees-none)

@@ -1,10 +1,9 @@
-use Rattle.std.proofs.Common.{tests}
 use Rattle.std.proofs.Common.{rules}
 use Rattle.tree.proofs.Added.{can-queue, node-added}
 use Rattle.tree.proofs.add_node.Goals as goal
 
 pub push-requires : goal.push-requires
-push-requires c = search (rules, tests, can-queue)
+push-requires c = search (rules, can-queue)
 
 pub returns : goal.returns
-returns c = search (rules, tests, node-added)
+returns c = search (rules, node-added)

@@ -1,11 +1,10 @@
 use Rattle.tree.proofs.push_node.Goals.{in-Open, in-Closed+else-evaluation-evaluation_of}
-use Rattle.std.proofs.Common.{tests}
 use Rattle.std.proofs.Common.{rules}
-use Rattle.tree.proofs.Added.{closer-within, push-open, push-within, push-above}
+use Rattle.tree.proofs.Added.{push-open, push-within, push-above}
 use Rattle.tree.proofs.push_node.Goals as goal
 
 pub returns-then-evaluation-evaluation_of : goal.returns-then-evaluation-evaluation_of
-returns-then-evaluation-evaluation_of c = search (rules, tests, closer-within, push-open, push-above, push-within)
+returns-then-evaluation-evaluation_of c = search (rules, push-within)
 
 pub returns : goal.returns
 returns c =

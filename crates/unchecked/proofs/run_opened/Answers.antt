@@ -1,6 +1,5 @@
 use native.Mathlib.Omega.{arith}
 use Rattle.std.proofs.Common.{◌∙◌}
-use Rattle.std.proofs.Common.{tests}
 use Rattle.std.proofs.Common.{rules}
 use Rattle.unchecked.proofs.ShownNode.{holder-is}
 use Rattle.unchecked.proofs.Waits.{advances-few, waited-few}
@@ -8,10 +7,10 @@ use Rattle.unchecked.proofs.Running.{running-first, running-can, running-advance
 use Rattle.unchecked.proofs.run_opened.Goals as goal
 
 pub loop-next-init : goal.loop-next-init
-loop-next-init c = search (rules, tests, running-first)
+loop-next-init c = search (rules, running-first)
 
 pub step_trees-stepped-requires : goal.step_trees-stepped-requires
-step_trees-stepped-requires c = search (rules, tests, running-can)
+step_trees-stepped-requires c = search (rules, running-can)
 
 pub overflow_add-tickets : goal.overflow_add-tickets
 overflow_add-tickets c =
@@ -19,7 +18,7 @@ overflow_add-tickets c =
     record { fits = omega (arith, advances-few (running-advances g c.loop-next-test.true c.step_trees-stepped.ensures), waited-few g.waited, g.within) }
 
 pub loop-next-preserved : goal.loop-next-preserved
-loop-next-preserved c = search (rules, tests, running_more)
+loop-next-preserved c = search (rules, running_more)
 
 pub status_of-requires : goal.status_of-requires
 status_of-requires c =

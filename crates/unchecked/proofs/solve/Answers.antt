@@ -25,13 +25,13 @@ pub bounds-next-best_entry : goal.bounds-next-best_entry
 bounds-next-best_entry c = search (rules, tests, best-place, going-can, going-length, waited-few)
 
 pub last_answer-requires : goal.last_answer-requires
-last_answer-requires c = search (rules, tests, going-shows)
+last_answer-requires c = search (rules, going-shows)
 
 pub returns-then-next : goal.returns-then-next
-returns-then-next c = search (rules, tests, ends-here, going-answers)
+returns-then-next c = search (rules, going-answers)
 
 pub step_trees-turned-requires : goal.step_trees-turned-requires
-step_trees-turned-requires c = search (rules, tests, going-can)
+step_trees-turned-requires c = search (rules, going-can)
 
 pub overflow_add-tickets : goal.overflow_add-tickets
 overflow_add-tickets c =
@@ -40,7 +40,7 @@ overflow_add-tickets c =
     record { fits = omega (arith, few, waited-few g.waited, c.loop-waits-test.true, c.ranges.steps.fits) }
 
 pub loop-waits-preserved : goal.loop-waits-preserved
-loop-waits-preserved c = search (rules, tests, going_more)
+loop-waits-preserved c = search (rules, going_more)
 
 pub returns : goal.returns
-returns c = search (rules, tests, ends-here, going-answers, going-ends)
+returns c = search (rules, going-ends)

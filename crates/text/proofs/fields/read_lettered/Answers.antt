@@ -3,10 +3,10 @@ use Rattle.text.proofs.FieldsRead.{lettered-short, lettered-other, lettered-fiel
 use Rattle.text.proofs.fields.read_lettered.Goals as goal
 
 pub returns-then-s-lt2 : goal.returns-then-s-lt2
-returns-then-s-lt2 c = search (rules, lettered-fields, lettered-other, lettered-short)
+returns-then-s-lt2 c = search (rules, lettered-short)
 
 pub returns-then-s-ne44 : goal.returns-then-s-ne44
-returns-then-s-ne44 c = search (rules, lettered-fields, lettered-other, lettered-short)
+returns-then-s-ne44 c = search (rules, lettered-other)
 
 pub returns : goal.returns
 returns c = search (rules, lettered-fields)

@@ -1,11 +1,10 @@
 use Rattle.tree.proofs.partial_keyed_closed_set.closed_keys_len.Goals.{then-tree-place-eq0, else-tree-place-eq0}
-use Rattle.std.proofs.Common.{tests}
 use Rattle.std.proofs.Common.{rules}
-use Rattle.tree.proofs.Counted.{Counted, counted_none, counted-closed, counted-open, counted-all}
+use Rattle.tree.proofs.Counted.{counted_none, counted-closed, counted-open, counted-all}
 use Rattle.tree.proofs.partial_keyed_closed_set.closed_keys_len.Goals as goal
 
 pub loop-place-init : goal.loop-place-init
-loop-place-init c = search (rules, tests, counted_none)
+loop-place-init c = search (rules, counted_none)
 
 pub loop-place-preserved : goal.loop-place-preserved
 loop-place-preserved c =
@@ -16,4 +15,4 @@ loop-place-preserved c =
     ]
 
 pub returns : goal.returns
-returns c = search (rules, tests, counted_none, Counted, counted-all, counted-closed, counted-open)
+returns c = search (rules, counted-all)

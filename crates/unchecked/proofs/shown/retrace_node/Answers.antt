@@ -1,5 +1,4 @@
 use native.Mathlib.Omega.{arith}
-use Rattle.std.proofs.Common.{tests}
 use Rattle.std.proofs.Common.{rules}
 use Rattle.unchecked.proofs.RetracedNode.{few-moves, can-backtrack, path-written}
 use Rattle.unchecked.proofs.shown.retrace_node.Goals as goal
@@ -11,7 +10,7 @@ pub overflow_add-count : goal.overflow_add-count
 overflow_add-count c = record { fits = omega (arith, few-moves c.requires c.moves-count.ensures) }
 
 pub backtrack-requires : goal.backtrack-requires
-backtrack-requires c = search (rules, tests, can-backtrack)
+backtrack-requires c = search (rules, can-backtrack)
 
 pub returns : goal.returns
-returns c = search (rules, tests, path-written)
+returns c = search (rules, path-written)
