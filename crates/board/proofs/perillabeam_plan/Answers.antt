@@ -1,5 +1,4 @@
-use Rattle.std.proofs.Common.{tests}
-use Rattle.std.proofs.Common.{rules}
+use Rattle.std.proofs.Common.{tests, rules}
 use Rattle.board.proofs.Told.{plan-told}
 use Rattle.board.proofs.perillabeam_plan.Goals as goal
 

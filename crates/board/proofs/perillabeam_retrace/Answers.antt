@@ -1,5 +1,4 @@
-use Rattle.std.proofs.Common.{tests}
-use Rattle.std.proofs.Common.{rules}
+use Rattle.std.proofs.Common.{tests, rules}
 use Rattle.board.proofs.Told.{has_room, retrace-strange, retrace-told, retrace-refused}
 use Rattle.board.proofs.perillabeam_retrace.Goals as goal
 

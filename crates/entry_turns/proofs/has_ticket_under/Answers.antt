@@ -1,5 +1,4 @@
-use Rattle.std.proofs.Common.{tests}
-use Rattle.std.proofs.Common.{rules}
+use Rattle.std.proofs.Common.{tests, rules}
 use Rattle.entry_turns.proofs.First.{none-under, first_fits, some-under}
 use Rattle.entry_turns.proofs.has_ticket_under.Goals as goal
 

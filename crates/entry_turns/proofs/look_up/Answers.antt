@@ -1,5 +1,4 @@
-use Rattle.std.proofs.Common.{tests}
-use Rattle.std.proofs.Common.{rules}
+use Rattle.std.proofs.Common.{tests, rules}
 use Rattle.sound.proofs.InUse.{has-slot}
 use Rattle.entry_turns.proofs.Entries.{can-look-up, looked-up}
 use Rattle.entry_turns.proofs.look_up.Goals as goal

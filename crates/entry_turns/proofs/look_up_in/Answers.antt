@@ -1,5 +1,4 @@
-use Rattle.std.proofs.Common.{tests}
-use Rattle.std.proofs.Common.{rules}
+use Rattle.std.proofs.Common.{tests, rules}
 use Rattle.entry_turns.proofs.LookedUp.{known-finds, unknown-finds}
 use Rattle.entry_turns.proofs.look_up_in.Goals as goal
 

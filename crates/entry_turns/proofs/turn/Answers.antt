@@ -1,5 +1,4 @@
-use Rattle.std.proofs.Common.{tests}
-use Rattle.std.proofs.Common.{rules}
+use Rattle.std.proofs.Common.{tests, rules}
 use Rattle.entry_turns.proofs.Grown.{turns-grown, turns-found}
 use Rattle.entry_turns.proofs.turn.Goals as goal
 

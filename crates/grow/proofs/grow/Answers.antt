@@ -1,5 +1,4 @@
-use Rattle.std.proofs.Common.{tests}
-use Rattle.std.proofs.Common.{rules}
+use Rattle.std.proofs.Common.{tests, rules}
 use Rattle.grow.proofs.Growing.{growing-none, growing-all, growing-dry, can-visit-first, growing-on, growing-found, growing-over}
 use Rattle.grow.proofs.grow.Goals as goal
 

@@ -1,5 +1,4 @@
-use Rattle.std.proofs.Common.{tests}
-use Rattle.std.proofs.Common.{rules}
+use Rattle.std.proofs.Common.{tests, rules}
 use Rattle.grow.proofs.Pushed.{cost-fits, can-push, pushed}
 use Rattle.grow.proofs.push_choice.Goals as goal
 

@@ -1,5 +1,4 @@
-use Rattle.std.proofs.Common.{tests}
-use Rattle.std.proofs.Common.{rules}
+use Rattle.std.proofs.Common.{tests, rules}
 use Rattle.grow.proofs.PushedAll.{pushing-none, pushing-end, can-push-next, pushing-one}
 use Rattle.grow.proofs.push_choices.Goals as goal
 

@@ -1,5 +1,4 @@
-use Rattle.std.proofs.Common.{tests}
-use Rattle.std.proofs.Common.{rules}
+use Rattle.std.proofs.Common.{tests, rules}
 use Rattle.grow.proofs.Visited.{can-close, visit-closed, can-push-choices, visit-open}
 use Rattle.grow.proofs.visit.Goals as goal
 

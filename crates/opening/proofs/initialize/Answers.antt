@@ -1,20 +1,19 @@
-use Rattle.std.proofs.Common.{tests, sym, ◌∙◌}
-use Rattle.std.proofs.Common.{rules}
+use Rattle.std.proofs.Common.{sym, ◌∙◌, rules}
 use Rattle.opening.proofs.Opened.{can-open}
 use Rattle.opening.proofs.Initialized.{forward-lists, backward-lists, starts-over, goals-over, start-past, goal-past, opened}
 use Rattle.opening.proofs.initialize.Goals as goal
 
 pub returns-then-starts-gt-MAX_ENTRIES : goal.returns-then-starts-gt-MAX_ENTRIES
-returns-then-starts-gt-MAX_ENTRIES c = search (rules, tests, backward-lists, can-open, forward-lists, goal-past, goals-over, opened, start-past, starts-over)
+returns-then-starts-gt-MAX_ENTRIES c = search (rules, starts-over)
 
 pub returns-then-goals-gt-MAX_ENTRIES : goal.returns-then-goals-gt-MAX_ENTRIES
-returns-then-goals-gt-MAX_ENTRIES c = search (rules, tests, backward-lists, can-open, forward-lists, goal-past, goals-over, opened, start-past, starts-over)
+returns-then-goals-gt-MAX_ENTRIES c = search (rules, goals-over)
 
 pub returns-then-not-are_vertices : goal.returns-then-not-are_vertices
-returns-then-not-are_vertices c = search (rules, tests, backward-lists, can-open, forward-lists, goal-past, goals-over, opened, start-past, starts-over)
+returns-then-not-are_vertices c = search (rules, start-past)
 
 pub returns-then-not-are_vertices-2 : goal.returns-then-not-are_vertices-2
-returns-then-not-are_vertices-2 c = search (rules, tests, backward-lists, can-open, forward-lists, goal-past, goals-over, opened, start-past, starts-over)
+returns-then-not-are_vertices-2 c = search (rules, goal-past)
 
 pub open_search-requires : goal.open_search-requires
 open_search-requires c = search (rules, can-open)

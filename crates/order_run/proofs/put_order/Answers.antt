@@ -1,5 +1,4 @@
-use Rattle.std.proofs.Common.{tests}
-use Rattle.std.proofs.Common.{rules}
+use Rattle.std.proofs.Common.{tests, rules}
 use Rattle.order_run.proofs.Within.{order-read}
 use Rattle.order_run.proofs.put_order.Goals as goal
 

@@ -1,5 +1,4 @@
-use Rattle.std.proofs.Common.{tests}
-use Rattle.std.proofs.Common.{rules}
+use Rattle.std.proofs.Common.{tests, rules}
 use Rattle.order_run.proofs.Texts.{lists-lent, ran-search}
 use Rattle.order_run.proofs.put_search.Goals as goal
 

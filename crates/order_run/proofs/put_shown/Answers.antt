@@ -1,5 +1,4 @@
-use Rattle.std.proofs.Common.{tests}
-use Rattle.std.proofs.Common.{rules}
+use Rattle.std.proofs.Common.{tests, rules}
 use Rattle.unchecked.proofs.ShownNode.{node-shown}
 use Rattle.order_run.proofs.Sizes.{path-fits, path-text, short-text}
 use Rattle.order_run.proofs.Texts.{puts-as}

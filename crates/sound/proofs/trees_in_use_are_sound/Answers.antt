@@ -1,5 +1,4 @@
-use Rattle.std.proofs.Common.{tests}
-use Rattle.std.proofs.Common.{rules}
+use Rattle.std.proofs.Common.{tests, rules}
 use Rattle.sound.proofs.Cache.{trees-none, starts_none, has-slot, can-check, has-start, tree-fails, has-mark, start-twice, trees-more, starts-marked, trees-all}
 use Rattle.sound.proofs.trees_in_use_are_sound.Goals as goal
 

@@ -1,6 +1,6 @@
-use Rattle.sound_tree.proofs.closed_edges.Goals.{then-tree-closed-ne0, else-tree-closed-ne0}
 use Rattle.std.proofs.Common.{rules}
 use Rattle.sound_tree.proofs.Edges.{closed-there, count_none, count-closed, count-open, count-all}
+use Rattle.sound_tree.proofs.closed_edges.Goals.{then-tree-closed-ne0, else-tree-closed-ne0}
 use Rattle.sound_tree.proofs.closed_edges.Goals as goal
 
 pub loop-e-init : goal.loop-e-init

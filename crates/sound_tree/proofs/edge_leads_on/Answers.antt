@@ -1,8 +1,7 @@
 use mathlib.Core.Logic.{inl, inr}
-use Rattle.sound_tree.proofs.edge_leads_on.Goals.{then-reached-ne0+else-evaluation-sum, else-reached-ne0}
-use Rattle.std.proofs.Common.{arith}
-use Rattle.std.proofs.Common.{rules}
+use Rattle.std.proofs.Common.{arith, rules}
 use Rattle.sound_tree.proofs.Edges.{onward-place, onward-open, onward-closer, sum_fits, sums, reached-place, reached-closer, has-least, onward-shut, onward-waits}
+use Rattle.sound_tree.proofs.edge_leads_on.Goals.{then-reached-ne0+else-evaluation-sum, else-reached-ne0}
 use Rattle.sound_tree.proofs.edge_leads_on.Goals as goal
 
 pub bounds-tree-closed : goal.bounds-tree-closed

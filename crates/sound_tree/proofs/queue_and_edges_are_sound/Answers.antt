@@ -1,5 +1,4 @@
-use Rattle.std.proofs.Common.{arith}
-use Rattle.std.proofs.Common.{rules}
+use Rattle.std.proofs.Common.{arith, rules}
 use Rattle.sound_tree.proofs.Tables.{few-edges, bad-nodes, tables-last}
 use Rattle.sound_tree.proofs.queue_and_edges_are_sound.Goals as goal
 

@@ -1,6 +1,6 @@
-use Rattle.sound_tree.proofs.queue_word_is_sound.Goals.{then-i-gt0+else-before, else-i-gt0}
 use Rattle.std.proofs.Common.{rules}
 use Rattle.sound_tree.proofs.QueueTests.{no_node, twice, parent-node, before_parent, after-parent, first_word, lower, not_lower}
+use Rattle.sound_tree.proofs.queue_word_is_sound.Goals.{then-i-gt0+else-before, else-i-gt0}
 use Rattle.sound_tree.proofs.queue_word_is_sound.Goals as goal
 
 pub returns-then-wide-node : goal.returns-then-wide-node

@@ -1,6 +1,6 @@
-use Rattle.tree.proofs.push_node.Goals.{in-Open, in-Closed+else-evaluation-evaluation_of}
 use Rattle.std.proofs.Common.{rules}
 use Rattle.tree.proofs.Added.{push-open, push-within, push-above}
+use Rattle.tree.proofs.push_node.Goals.{in-Open, in-Closed+else-evaluation-evaluation_of}
 use Rattle.tree.proofs.push_node.Goals as goal
 
 pub returns-then-evaluation-evaluation_of : goal.returns-then-evaluation-evaluation_of

@@ -1,6 +1,5 @@
 use native.Mathlib.Omega.{arith}
-use Rattle.std.proofs.Common.{◌∙◌}
-use Rattle.std.proofs.Common.{rules}
+use Rattle.std.proofs.Common.{◌∙◌, rules}
 use Rattle.unchecked.proofs.ShownNode.{holder-is}
 use Rattle.unchecked.proofs.Waits.{advances-few, waited-few}
 use Rattle.unchecked.proofs.Running.{running-first, running-can, running-advances, running_more, running-shows, running-ends}

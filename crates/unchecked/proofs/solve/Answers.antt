@@ -1,8 +1,6 @@
 use native.Mathlib.Omega.{arith}
-use Rattle.std.proofs.Common.{◌∙◌, sym, refl}
+use Rattle.std.proofs.Common.{◌∙◌, sym, refl, tests, rules}
 use Rattle.model.specs.Steps.{at_first}
-use Rattle.std.proofs.Common.{tests}
-use Rattle.std.proofs.Common.{rules}
 use Rattle.entry_turns.proofs.Round.{best-place}
 use Rattle.unchecked.proofs.Waits.{advances-few, waited-few}
 use Rattle.unchecked.proofs.Solved.{ends-here}

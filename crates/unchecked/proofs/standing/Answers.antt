@@ -1,5 +1,4 @@
-use Rattle.std.proofs.Common.{tests}
-use Rattle.std.proofs.Common.{rules}
+use Rattle.std.proofs.Common.{tests, rules}
 use Rattle.memory.proofs.Judged.{is-invalid, is-unfinished, is-finished}
 use Rattle.unchecked.proofs.ShownNode.{valid-shows, status-is}
 use Rattle.unchecked.proofs.Advanced.{not_valid, finished, waits}

@@ -1,5 +1,4 @@
-use Rattle.std.proofs.Common.{ap, sym, ◌∙◌}
-use Rattle.std.proofs.Common.{rules}
+use Rattle.std.proofs.Common.{ap, sym, ◌∙◌, rules}
 use Rattle.text.specs.Read.{check_fault}
 use Rattle.text.proofs.Judged.{judging-first, judged-last, judged-unended, judged-fault, judging-next}
 use Rattle.text.proofs.LineCuts.{place-within}

@@ -1,5 +1,4 @@
-use Rattle.std.proofs.Common.{tests}
-use Rattle.std.proofs.Common.{rules}
+use Rattle.std.proofs.Common.{tests, rules}
 use Rattle.text.specs.Lines.{line_of}
 use Rattle.text.proofs.lines.read_line.Goals as goal
 

@@ -1,6 +1,6 @@
-use Rattle.tree.proofs.partial_keyed_closed_set.closed_keys_len.Goals.{then-tree-place-eq0, else-tree-place-eq0}
 use Rattle.std.proofs.Common.{rules}
 use Rattle.tree.proofs.Counted.{counted_none, counted-closed, counted-open, counted-all}
+use Rattle.tree.proofs.partial_keyed_closed_set.closed_keys_len.Goals.{then-tree-place-eq0, else-tree-place-eq0}
 use Rattle.tree.proofs.partial_keyed_closed_set.closed_keys_len.Goals as goal
 
 pub loop-place-init : goal.loop-place-init

@@ -1,5 +1,4 @@
-use Rattle.std.proofs.Common.{tests}
-use Rattle.std.proofs.Common.{rules}
+use Rattle.std.proofs.Common.{tests, rules}
 use Rattle.text.specs.Read.{line_faults}
 use Rattle.text.proofs.counts.Counts.check_edge.Goals as goal
 
