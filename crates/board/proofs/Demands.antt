@@ -1,29 +1,26 @@
 -- A list of the board's calls is one of the calls that they are made of, so that the demands on those hold of it.
 -- Assumes nothing.
 use mathlib.Core.Path.{◌≡◌, refl, sym, ap, ap₂, subst, ◌∙◌}
+use Rattle.model.specs.declared.SearchStatus.{SearchStatus}
+use Rattle.std.specs.declared.result.Result.{Result}
+use Rattle.model.specs.declared.Refused.{Refused}
+use Rattle.std.specs.Prelude.{Err, Ok}
 use mathlib.Core.Bool.{Bool, true, false, true≢false}
 use mathlib.Core.List.{List, [], ◌∷◌, ◌++◌}
 use Prim.Native.Nat.{ℕ}
 use native.Mathlib.Omega.{arith}
 use lib.ListN.{replicate}
-use Rattle.model.specs.declared.InitializeAnswer.{InitializeAnswer}
-use Rattle.model.specs.declared.InitializeAnswer.TheVariants as initializing
-use Rattle.model.specs.declared.OpenAnswer.{OpenAnswer}
-use Rattle.model.specs.declared.OpenAnswer.TheVariants as opening
 use Rattle.model.specs.declared.Refusal.{Refusal}
-use Rattle.model.specs.declared.RetraceAnswer.{RetraceAnswer}
 use Rattle.model.specs.declared.Search.{Search}
-use Rattle.model.specs.declared.StepAnswer.{StepAnswer}
-use Rattle.model.specs.declared.StepAnswer.TheVariants as stepping
 use Rattle.model.specs.Answers.{Reply, answered, waiting, Status, is_answered, open_reply, initialize_reply, step_reply}
-use Rattle.model.specs.Calls.{after_retrace}
+use Rattle.model.specs.Calls.{after_retrace, opened_search}
 use Rattle.model.specs.Solve.{is_waiting}
 use Rattle.model.specs.Demands.{Call, reading, Act, own_step, own_retrace, Event, stepped, retraced}
 use Rattle.layout.specs.Sound.{sound_wordsb}
 use Rattle.search_words.specs.Record.{is_record, decode}
 use Rattle.search_words.proofs.Inverse.{left_by, record-long}
 use Rattle.cache.specs.Open.{Opening}
-use Rattle.dijkstra.specs.Calls.{Retracing}
+use Rattle.dijkstra.specs.Calls.{Retracing, Initializing}
 use Rattle.dijkstra.proofs.Demand1 as dijkstra
 use Rattle.planner.specs.Solve.{last_if, events_of}
 use Rattle.planner.specs.Plan.{steps_in as plannedSteps}
@@ -34,7 +31,7 @@ use Rattle.calls.proofs.Demands as calls-lists
 use Rattle.board.specs.Board.{answer_number, answer_numbers, Kept, OpenCalled, InitializeCalled, StepCalled, SolveCalled, PlanCalled, RetraceCalled}
 use Rattle.board.specs.Board as board
 use Rattle.board.specs.Demands.{step_told, path_told, step_events, own_steps, initialize_call, step_call, solve_call, plan_call, retrace_call, Part, no_part, own, Called, called_open, called_is_sound, called_initialize, called_step, called_solve, called_plan, called_retrace, CalledAll, none_called, and_then, Chain, ends, own_call, between, Searched, by_initialize, by_plan, History, Demand2, Demand3}
-use Rattle.board.proofs.Numbers.{number-some, strange-some, LineNone, reply-in, waits_in, path-in}
+use Rattle.board.proofs.Numbers.{number-some, strange-some, reply-in, waits_in, path-in}
 use Rattle.board.proofs.Demand1.{open-refused}
 
 -- ---- what each call is made of, on the words
@@ -84,10 +81,10 @@ record Goes (s : Search) (rec' : List ℕ) : Type 0 where
   holds : decode rec' ≡ s
 
 -- the answer y handed the record s back; refused, it is the one that was handed in
-goes : (y : StepAnswer) (s : Search) (rec rec' : List ℕ) → is_record rec ≡ true → Kept (step_reply y) s rec rec'
-    → ((f : Refusal) (line : ℕ) → y ≡ stepping.Refused f line → s ≡ decode rec) → Goes s rec'
-goes (stepping.Status x) s rec rec' h k e = let g = left_by k (record-long rec h) in record { is = g.passes; holds = g.reads }
-goes (stepping.Refused f line) s rec rec' h k e = record { is = ap is_record k ∙ h; holds = ap decode k ∙ sym (e f line refl) }
+goes : (y : Result SearchStatus Refusal) (s : Search) (rec rec' : List ℕ) → is_record rec ≡ true → Kept (step_reply y) s rec rec'
+    → ((f : Refusal) → y ≡ Err f → s ≡ decode rec) → Goes s rec'
+goes (Ok x) s rec rec' h k e = let g = left_by k (record-long rec h) in record { is = g.passes; holds = g.reads }
+goes (Err f) s rec rec' h k e = record { is = ap is_record k ∙ h; holds = ap decode k ∙ sym (e f refl) }
 
 abbrev InChain : List ℕ → List ℕ → Part → Type 0
 InChain ws left no_part = Unit {0}
@@ -100,8 +97,8 @@ step-own : {ws rec : List ℕ} {r : ℕ} {a left rec' : List ℕ} → StepCalled
 step-own (board.no_record h n m w k) is = absurd (true≢false (sym is ∙ h))
 step-own {ws} {rec} {r} {a} {left} {rec'} (board.stepped h x p n m k) is =
     let kept = (dijkstra.demand-1).1 ws (decode rec) x left p in
-    let g = goes x.answer x.search rec rec' is k (λ f line e. (kept f line e).1.0) in
-    let told : step_told r a ≡ step_reply x.answer = ap₂ step_told n m ∙ reply-in x.answer (λ f line e. (kept f line e).1.1.1) _ _ _ in (
+    let g = goes x.answer x.search rec rec' is k (λ f e. (kept f e).1.0) in
+    let told : step_told r a ≡ step_reply x.answer = ap₂ step_told n m ∙ reply-in x.answer _ _ _ in (
       g.is,
       λ acts es c.
           subst (λ (y : Reply Status). calls.Chain ws (decode rec) (own_step ∷ acts) (stepped y ∷ es)) (sym told)
@@ -109,20 +106,20 @@ step-own {ws} {rec} {r} {a} {left} {rec'} (board.stepped h x p n m k) is =
     )
 
 -- the steps that the numbers tell are those of the call
-steps-in : (y : StepAnswer) (w t : ℕ) (p : Bool) {r : ℕ} {a : List ℕ} → r ≡ answer_number (step_reply y) → a ≡ answer_numbers (step_reply y) w t p → LineNone y
-    → ((f : Refusal) (line : ℕ) → y ≡ stepping.Refused f line → w ≡ 0)
+steps-in : (y : Result SearchStatus Refusal) (w t : ℕ) (p : Bool) {r : ℕ} {a : List ℕ} → r ≡ answer_number (step_reply y) → a ≡ answer_numbers (step_reply y) w t p
+    → ((f : Refusal) → y ≡ Err f → w ≡ 0)
     → step_events r a ≡ replicate w (stepped (answered waiting)) ++ last_if (is_waiting (step_reply y)) (stepped (step_reply y))
-steps-in y w t p n m none still =
+steps-in y w t p n m still =
     ap₂ step_events n m
-    ∙ ap₂ (λ (c : ℕ) (z : Reply Status). replicate c (stepped (answered waiting)) ++ last_if (is_waiting z) (stepped z)) (waits_in y w t p still) (reply-in y none w t p)
+    ∙ ap₂ (λ (c : ℕ) (z : Reply Status). replicate c (stepped (answered waiting)) ++ last_if (is_waiting z) (stepped z)) (waits_in y w t p still) (reply-in y w t p)
 
 solve-own : {ws rec : List ℕ} {c r : ℕ} {a left rec' : List ℕ} → SolveCalled ws rec c r a left rec'
     → InChain ws left (own rec (own_steps (step_events r a)) (step_events r a) rec')
 solve-own (board.no_record h n m w k) is = absurd (true≢false (sym is ∙ h))
 solve-own {ws} {rec} {c} {r} {a} {left} {rec'} (board.many_stepped h x p n m k) is =
     let kept = planner.demand-1 ws (decode rec) c x left p in
-    let g = goes x.answer x.search rec rec' is k (λ f line e. (kept f line e).1.0) in
-    let told : step_events r a ≡ events_of x = steps-in x.answer x.waits x.tickets false n m (λ f line e. (kept f line e).1.1.1.1) (λ f line e. (kept f line e).1.1.0) in (
+    let g = goes x.answer x.search rec rec' is k (λ f e. (kept f e).1.0) in
+    let told : step_events r a ≡ events_of x = steps-in x.answer x.waits x.tickets false n m (λ f e. (kept f e).1.1.0) in (
       g.is,
       λ acts es k.
           subst (λ (l : List Event). calls.Chain ws (decode rec) (own_steps l ++ acts) (l ++ es)) (sym told)
@@ -133,7 +130,7 @@ retrace-own : {ws rec p : List ℕ} {r moves : ℕ} {q : List ℕ} → RetraceCa
     → InChain ws ws (own rec (own_retrace p ∷ []) (retraced p (record { reply = path_told r moves; path = q }) ∷ []) rec)
 retrace-own (board.no_record h n m w) is = absurd (true≢false (sym is ∙ h))
 retrace-own {ws} {rec} {p} {r} {moves} {q} (board.retraced h x c n m) is =
-    let told : path_told r moves ≡ _ = ap₂ path_told n m ∙ path-in x (λ f line e. ((dijkstra.demand-1).2 ws (decode rec) p x q c f line e).1) in (
+    let told : path_told r moves ≡ _ = ap₂ path_told n m ∙ path-in x in (
       is,
       λ acts es k.
           subst (λ (y : Reply ℕ). calls.Chain ws (decode rec) (own_retrace p ∷ acts) (retraced p (record { reply = y; path = q }) ∷ es)) (sym told)
@@ -165,30 +162,31 @@ chain-made is (between x c k) = calls.between x (made c).1 (chain-made is k)
 initialized : {ws ss gs rec : List ℕ} {left rec' : List ℕ} {acts : List Act} {es : List Event} → InitializeCalled ws ss gs rec 0 left rec'
     → Chain left rec' acts es → calls.Searched ws ss gs acts es
 initialized {ws} (board.no_room h n w k) c = absurd (omega (arith, strange-some (sound_wordsb ws) 0 n))
-initialized {ws} {ss} {gs} {rec} {left} {rec'} {acts} {es} (board.initialized room x p n k) c = go x.answer refl n k
+initialized {ws} {ss} {gs} {rec} {left} {rec'} {acts} {es} (board.initialized room x p n k) c = go x p n k
   where
-    go : (y : InitializeAnswer) → x.answer ≡ y → 0 ≡ answer_number (initialize_reply y) → Kept (initialize_reply y) x.search rec rec' → calls.Searched ws ss gs acts es
-    go initializing.Initialized e n k =
+    go : (y : Result Search Refusal) → Initializing ws ss gs y left → 0 ≡ answer_number (initialize_reply y) → Kept (initialize_reply y) (opened_search y) rec rec'
+        → calls.Searched ws ss gs acts es
+    go (Ok s) p n k =
         let g = left_by k room in
-        calls.by_initialize x p e (subst (λ (s : Search). calls.Chain left s acts es) g.reads (chain-made g.passes c))
-    go (initializing.Refused f line) e n k = absurd (omega (arith, n, number-some f))
+        calls.by_initialize s p (subst (λ (s : Search). calls.Chain left s acts es) g.reads (chain-made g.passes c))
+    go (Err f) p n k = absurd (omega (arith, n, number-some f))
 
 planned : {ws ss gs p rec a : List ℕ} {left q rec' : List ℕ} {acts : List Act} {es : List Event} → PlanCalled ws ss gs p rec 0 a left q rec'
-    → (t : RetraceAnswer) → Retracing left (decode rec') p t q → Chain left rec' acts es
+    → (t : Result ℕ Refusal) → Retracing left (decode rec') p t q → Chain left rec' acts es
     → calls.Searched ws ss gs (own_steps (step_events 0 a) ++ (own_retrace p ∷ acts)) (step_events 0 a ++ (retraced p (after_retrace t q) ∷ es))
 planned {ws} (board.no_room h n m w y k) t z c = absurd (omega (arith, strange-some (sound_wordsb ws) 0 n))
 planned {ws} {ss} {gs} {p} {rec} {a} {left} {q} {rec'} {acts} {es} (board.planned room x k n m w) t z c = go x.answer refl n w
   where
     told : step_events 0 a ≡ events_of (plannedSteps x)
-    told = steps-in x.answer x.waits x.tickets x.has_path n m (λ f line e. (plan.demand-1 ws ss gs p x left q k f line e).6) (λ f line e. (plan.demand-1 ws ss gs p x left q k f line e).4)
+    told = steps-in x.answer x.waits x.tickets x.has_path n m (λ f e. (plan.demand-1 ws ss gs p x left q k f e).4)
 
-    go : (y : StepAnswer) → x.answer ≡ y → 0 ≡ answer_number (step_reply y) → Kept (step_reply y) x.search rec rec'
+    go : (y : Result SearchStatus Refusal) → x.answer ≡ y → 0 ≡ answer_number (step_reply y) → Kept (step_reply y) x.search rec rec'
         → calls.Searched ws ss gs (own_steps (step_events 0 a) ++ (own_retrace p ∷ acts)) (step_events 0 a ++ (retraced p (after_retrace t q) ∷ es))
-    go (stepping.Refused f line) e n w = absurd (omega (arith, n, number-some f))
-    go (stepping.Status st) e n w =
+    go (Err f) e n w = absurd (omega (arith, n, number-some f))
+    go (Ok st) e n w =
         let g = left_by w room in
         subst (λ (l : List Event). calls.Searched ws ss gs (own_steps l ++ (own_retrace p ∷ acts)) (l ++ (retraced p (after_retrace t q) ∷ es))) (sym told)
-        (calls.by_plan p x t k (ap (λ (y : StepAnswer). is_answered (step_reply y)) e) (subst (λ (s : Search). Retracing left s p t q) g.reads z)
+        (calls.by_plan p x t k (ap (λ (y : Result SearchStatus Refusal). is_answered (step_reply y)) e) (subst (λ (s : Search). Retracing left s p t q) g.reads z)
         (subst (λ (s : Search). calls.Chain left s acts es) g.reads (chain-made g.passes c)))
 
 searched : {ws ss gs : List ℕ} {acts : List Act} {es : List Event} → Searched ws ss gs acts es → calls.Searched ws ss gs acts es
@@ -196,12 +194,12 @@ searched (by_initialize k c) = initialized k c
 searched (by_plan p t k z c) = planned k t z c
 
 -- an opening that answered 0 is accepted
-opened : (lent text : List ℕ) (d t line : ℕ) (first : List ℕ) → OpenCalled lent text d t 0 line first → Opening lent text d t opening.Opened first
+opened : (lent text : List ℕ) (d t line : ℕ) (first : List ℕ) → OpenCalled lent text d t 0 line first → Opening lent text d t (Ok tt) first
 opened lent text d t line first p = go p.answer p.call p.number
   where
-    go : (x : OpenAnswer) → Opening lent text d t x first → 0 ≡ answer_number (open_reply x) → Opening lent text d t opening.Opened first
-    go opening.Opened c e = c
-    go (opening.Refused f n) c e = absurd (omega (arith, e, number-some f))
+    go : (x : Result (Unit {0}) Refused) → Opening lent text d t x first → 0 ≡ answer_number (open_reply x) → Opening lent text d t (Ok tt) first
+    go (Ok u) c e = c
+    go (Err f) c e = absurd (omega (arith, e, number-some f.refusal))
 
 pub history-made : {text : List ℕ} {d t : ℕ} {before : List Call} {ss gs : List ℕ} {acts : List Act} {es : List Event}
     → History text d t before ss gs acts es → calls.History text d t before ss gs acts es

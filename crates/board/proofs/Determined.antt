@@ -14,7 +14,7 @@ use Rattle.model.specs.Answers.{Reply, answered, refused, Status, initialize_rep
 use Rattle.layout.specs.Read.{read_cache}
 use Rattle.search_words.specs.Record.{is_record, decode}
 use Rattle.cache.specs.Open.{AfterOpen}
-use Rattle.model.specs.Calls.{AfterRetrace}
+use Rattle.model.specs.Calls.{AfterRetrace, opened_search}
 use Rattle.dijkstra.specs.Demands.{SameBut}
 use Rattle.dijkstra.proofs.Determined.{determined as step-determined}
 use Rattle.planner.proofs.Determined.{determined as solve-determined}
@@ -55,10 +55,10 @@ initialize-same ws ss gs rec r r₂ left left₂ rec' rec₂ (board.no_room h n 
 initialize-same ws ss gs rec r r₂ left left₂ rec' rec₂ (board.initialized room x p m v) (board.no_room h n w k) = absurd (omega (arith, h, room))
 initialize-same ws ss gs rec r r₂ left left₂ rec' rec₂ (board.initialized room x p n k) (board.initialized room₂ x₂ p₂ n₂ k₂) =
     let reply = p.answer ∙ sym p₂.answer in
-    let kept = subst (λ (s : Search). Kept (initialize_reply x₂.answer) s rec rec₂) (sym (p.search ∙ sym p₂.search)) k₂ in (
+    let kept = subst (λ (s : Search). Kept (initialize_reply x₂) s rec rec₂) (sym (p.search ∙ sym p₂.search)) k₂ in (
       n ∙ ap answer_number reply ∙ sym n₂,
       p.words ∙ sym p₂.words,
-      kept_same (initialize_reply x.answer) x.search rec rec' rec₂ k (subst (λ (y : Reply (Unit {0})). Kept y x.search rec rec₂) (sym reply) kept),
+      kept_same (initialize_reply x) (opened_search x) rec rec' rec₂ k (subst (λ (y : Reply (Unit {0})). Kept y (opened_search x) rec rec₂) (sym reply) kept),
     )
 
 step_same : (ws rec : List ℕ) (r r₂ : ℕ) (a a₂ left left₂ rec' rec₂ : List ℕ) → StepCalled ws rec r a left rec' → StepCalled ws rec r₂ a₂ left₂ rec₂

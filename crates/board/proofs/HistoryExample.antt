@@ -2,12 +2,11 @@
 -- its record kept in words; between its steps a call is handed words that are no record, and refused.
 -- Assumes nothing.
 use mathlib.Core.Path.{refl, sym, subst}
+use Rattle.std.specs.Prelude.{Ok}
 use mathlib.Core.List.{List, [], ◌∷◌}
 use Prim.Native.Nat.{ℕ, ◌≤◌}
 use native.Mathlib.Omega.{arith}
 use lib.ListN.{length, replicate, length-replicate}
-use Rattle.model.specs.declared.RetraceAnswer.TheVariants as retracing
-use Rattle.model.specs.declared.OpenAnswer.TheVariants as opening
 use Rattle.model.specs.declared.Search.{Search}
 use Rattle.model.specs.Worth.{evaluation_of, weight}
 use Rattle.model.specs.Answers.{answered, waiting, solved}
@@ -91,7 +90,7 @@ third = board.stepped held3.passes solved7 (subst (λ (s : Search). Stepping wor
 
 shows-path : RetraceCalled words3 record4 slice 0 2 shown
 shows-path =
-    board.retraced held4.passes (retracing.Moves 2) (subst (λ (s : Search). Retracing words3 s slice (retracing.Moves 2) shown) (sym held4.reads) shows) refl refl
+    board.retraced held4.passes (Ok 2) (subst (λ (s : Search). Retracing words3 s slice (Ok 2) shown) (sym held4.reads) shows) refl refl
 
 -- ---- the whole list, and what the demands say of it
 
@@ -120,7 +119,7 @@ history = record {
   lent = _;
   line = 0;
   first = words0;
-  opens = record { answer = opening.Opened; call = opens; number = refl; lines = refl };
+  opens = record { answer = Ok tt; call = opens; number = refl; lines = refl };
   mid = words0;
   called = none_called;
   searched = by_initialize initialized chain;

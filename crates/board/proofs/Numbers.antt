@@ -1,6 +1,9 @@
 -- The numbers that a call answers say what it answered.
 -- Assumes nothing.
-use mathlib.Core.Path.{◌≡◌, refl, sym, ap, ◌∙◌}
+use mathlib.Core.Path.{◌≡◌, refl, sym}
+use Rattle.model.specs.declared.SearchStatus.{SearchStatus}
+use Rattle.std.specs.declared.result.Result.{Result}
+use Rattle.std.specs.Prelude.{Err, Ok}
 use mathlib.Core.Bool.{Bool, true, false, cond}
 use mathlib.Core.List.{List}
 use Prim.Native.Nat.{ℕ, zero, suc, ◌<◌}
@@ -8,11 +11,7 @@ use native.Mathlib.Omega.{arith}
 use lib.ListN.{get_or}
 use Rattle.model.specs.declared.Refusal.{Refusal}
 use Rattle.model.specs.declared.Refusal.TheVariants.{Malformed, OutOfOrder, NoSuchVertex, OverLimit, ShortCache, TreesFull, Unsound, InvalidSearch, NotSolved, ShortPath}
-use Rattle.model.specs.declared.RetraceAnswer.{RetraceAnswer}
-use Rattle.model.specs.declared.RetraceAnswer.TheVariants as retracing
 use Rattle.model.specs.declared.SearchStatus.TheVariants.{Incomplete, Solved, Impossible}
-use Rattle.model.specs.declared.StepAnswer.{StepAnswer}
-use Rattle.model.specs.declared.StepAnswer.TheVariants as stepping
 use Rattle.model.specs.Answers.{number, refused, step_reply, retrace_reply}
 use Rattle.board.specs.Board.{answer_number, path_moves, no_numbers, answer_numbers}
 use Rattle.board.specs.Demands.{step_told, path_told}
@@ -43,24 +42,20 @@ refused-path : (n m : ℕ) → 0 < n → path_told n m ≡ refused n 0
 refused-path zero m h = absurd (omega arith)
 refused-path (suc n) m h = refl
 
--- what a refusal's line is: a step's is 0
-abbrev pub LineNone : StepAnswer → Type 0
-LineNone y = (f : Refusal) (line : ℕ) → y ≡ stepping.Refused f line → line ≡ 0
-
 -- the reply, read off the numbers
-pub reply-in : (y : StepAnswer) → LineNone y → (w t : ℕ) (p : Bool) → step_told (answer_number (step_reply y)) (answer_numbers (step_reply y) w t p) ≡ step_reply y
-reply-in (stepping.Status Incomplete) h w t p = refl
-reply-in (stepping.Status (Solved k m)) h w t p = refl
-reply-in (stepping.Status Impossible) h w t p = refl
-reply-in (stepping.Refused f line) h w t p = refused-in (number f) no_numbers (number-some f) ∙ ap (refused (number f)) (sym (h f line refl))
+pub reply-in : (y : Result SearchStatus Refusal) → (w t : ℕ) (p : Bool) → step_told (answer_number (step_reply y)) (answer_numbers (step_reply y) w t p) ≡ step_reply y
+reply-in (Ok Incomplete) w t p = refl
+reply-in (Ok (Solved k m)) w t p = refl
+reply-in (Ok Impossible) w t p = refl
+reply-in (Err f) w t p = refused-in (number f) no_numbers (number-some f)
 
 -- the steps that waited: none in a refusal
-pub waits_in : (y : StepAnswer) (w t : ℕ) (p : Bool) → ((f : Refusal) (line : ℕ) → y ≡ stepping.Refused f line → w ≡ 0) → get_or (answer_numbers (step_reply y) w t p) 3 0 ≡ w
-waits_in (stepping.Status Incomplete) w t p h = refl
-waits_in (stepping.Status (Solved k m)) w t p h = refl
-waits_in (stepping.Status Impossible) w t p h = refl
-waits_in (stepping.Refused f line) w t p h = sym (h f line refl)
+pub waits_in : (y : Result SearchStatus Refusal) (w t : ℕ) (p : Bool) → ((f : Refusal) → y ≡ Err f → w ≡ 0) → get_or (answer_numbers (step_reply y) w t p) 3 0 ≡ w
+waits_in (Ok Incomplete) w t p h = refl
+waits_in (Ok (Solved k m)) w t p h = refl
+waits_in (Ok Impossible) w t p h = refl
+waits_in (Err f) w t p h = sym (h f refl)
 
-pub path-in : (x : RetraceAnswer) → ((f : Refusal) (line : ℕ) → x ≡ retracing.Refused f line → line ≡ 0) → path_told (answer_number (retrace_reply x)) (path_moves (retrace_reply x)) ≡ retrace_reply x
-path-in (retracing.Moves m) h = refl
-path-in (retracing.Refused f line) h = refused-path (number f) 0 (number-some f) ∙ ap (refused (number f)) (sym (h f line refl))
+pub path-in : (x : Result ℕ Refusal) → path_told (answer_number (retrace_reply x)) (path_moves (retrace_reply x)) ≡ retrace_reply x
+path-in (Ok m) = refl
+path-in (Err f) = refused-path (number f) 0 (number-some f)

@@ -2,16 +2,17 @@
 -- call's own promise, on the record that the record's words hold; its answer is told in 01's numbers.
 -- Assumes nothing.
 use Rattle.std.specs.Prelude.{◌≡◌, Bool, true, false, cond, List, [], ◌∷◌, ℕ, ◌<◌, ◌≤◌, leb, length}
+use Rattle.std.specs.declared.result.Result.{Result}
+use Rattle.model.specs.declared.Refused.{Refused}
+use Rattle.model.specs.declared.Refusal.{Refusal}
 use Rattle.model.specs.Limits.{vertex_limit, edge_limit, slot_limit}
 use Rattle.model.specs.Lists.{allb}
-use Rattle.model.specs.declared.OpenAnswer.{OpenAnswer}
 use Rattle.model.specs.declared.Planned.{Planned}
-use Rattle.model.specs.declared.RetraceAnswer.{RetraceAnswer}
 use Rattle.model.specs.declared.Search.{Search}
-use Rattle.model.specs.declared.SearchOpened.{SearchOpened}
 use Rattle.model.specs.declared.Stepped.{Stepped}
 use Rattle.model.specs.declared.StepsTaken.{StepsTaken}
 use Rattle.model.specs.Answers.{Reply, answered, refused, Status, waiting, solved, no_path, open_reply, initialize_reply, step_reply, retrace_reply}
+use Rattle.model.specs.Calls.{opened_search}
 use Rattle.model.specs.Solve.{is_waiting}
 use Rattle.layout.specs.Layout.{needed}
 use Rattle.layout.specs.Sound.{sound_wordsb}
@@ -80,7 +81,7 @@ pub record WordsNeeded (m l t r n : ℕ) : Type 0 where
   pub words : n ≡ cond (sizedb m l t) (needed m l t) 0
 
 pub record OpenCalled (ws text : List ℕ) (d t r line : ℕ) (left : List ℕ) : Type 0 where
-  pub answer : OpenAnswer
+  pub answer : Result (Unit {0}) Refused
   pub call : Opening ws text d t answer left
   pub number : r ≡ answer_number (open_reply answer)
   pub lines : line ≡ answer_line (open_reply answer)
@@ -89,8 +90,8 @@ pub record OpenCalled (ws text : List ℕ) (d t r line : ℕ) (left : List ℕ) 
 
 pub data InitializeCalled (ws ss gs rec : List ℕ) (r : ℕ) (left rec' : List ℕ) : Type 0 where
   no_room : length rec < record_words → r ≡ strange ws → left ≡ ws → rec' ≡ rec → InitializeCalled ws ss gs rec r left rec'
-  initialized : record_words ≤ length rec → (x : SearchOpened) → Initializing ws ss gs x left → r ≡ answer_number (initialize_reply x.answer)
-      → Kept (initialize_reply x.answer) x.search rec rec' → InitializeCalled ws ss gs rec r left rec'
+  initialized : record_words ≤ length rec → (x : Result Search Refusal) → Initializing ws ss gs x left → r ≡ answer_number (initialize_reply x)
+      → Kept (initialize_reply x) (opened_search x) rec rec' → InitializeCalled ws ss gs rec r left rec'
 
 pub data PlanCalled (ws ss gs p rec : List ℕ) (r : ℕ) (a left q rec' : List ℕ) : Type 0 where
   no_room : length rec < record_words → r ≡ strange ws → a ≡ no_numbers → left ≡ ws → q ≡ p → rec' ≡ rec
@@ -115,7 +116,7 @@ pub data SolveCalled (ws rec : List ℕ) (n r : ℕ) (a left rec' : List ℕ) : 
 
 pub data RetraceCalled (ws rec p : List ℕ) (r moves : ℕ) (q : List ℕ) : Type 0 where
   no_record : is_record rec ≡ false → r ≡ strange ws → moves ≡ 0 → q ≡ p → RetraceCalled ws rec p r moves q
-  retraced : is_record rec ≡ true → (x : RetraceAnswer) → Retracing ws (decode rec) p x q → r ≡ answer_number (retrace_reply x)
+  retraced : is_record rec ≡ true → (x : Result ℕ Refusal) → Retracing ws (decode rec) p x q → r ≡ answer_number (retrace_reply x)
       → moves ≡ path_moves (retrace_reply x) → RetraceCalled ws rec p r moves q
 
 -- ---- Demand 1, "hold, after any refused call, what they held before it": words, record and path

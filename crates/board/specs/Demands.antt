@@ -3,7 +3,8 @@
 -- answers, are said where they are of the other crates' calls (dijkstra/specs/Demands.antt).
 -- Assumes nothing.
 use Rattle.std.specs.Prelude.{◌≡◌, Bool, cond, List, [], ◌∷◌, ◌++◌, ℕ, zero, suc, ◌<◌, eqb, length, get_or, replicate}
-use Rattle.model.specs.declared.RetraceAnswer.{RetraceAnswer}
+use Rattle.std.specs.declared.result.Result.{Result}
+use Rattle.model.specs.declared.Refusal.{Refusal}
 use Rattle.model.specs.Answers.{Reply, answered, refused, Status, waiting, solved, no_path}
 use Rattle.model.specs.Calls.{after_retrace}
 use Rattle.model.specs.Solve.{is_waiting}
@@ -103,7 +104,7 @@ pub data Chain : List ℕ → List ℕ → List Act → List Event → Type 0 wh
 pub data Searched (ws ss gs : List ℕ) : List Act → List Event → Type 0 where
   by_initialize : {left rec rec' : List ℕ} {acts : List Act} {es : List Event} → InitializeCalled ws ss gs rec 0 left rec'
       → Chain left rec' acts es → Searched ws ss gs acts es
-  by_plan : {left q rec rec' a : List ℕ} {acts : List Act} {es : List Event} (p : List ℕ) (t : RetraceAnswer)
+  by_plan : {left q rec rec' a : List ℕ} {acts : List Act} {es : List Event} (p : List ℕ) (t : Result ℕ Refusal)
       → PlanCalled ws ss gs p rec 0 a left q rec' → Retracing left (decode rec') p t q → Chain left rec' acts es
       → Searched ws ss gs (own_steps (step_events 0 a) ++ (own_retrace p ∷ acts)) (step_events 0 a ++ (retraced p (after_retrace t q) ∷ es))
 

@@ -4,16 +4,15 @@
 
 #![tactic(auto)]
 
-ghost use Rattle.std.specs.Prelude.{◌≡◌, cond, ◌≤◌, length};
+ghost use Rattle.std.specs.Prelude.{◌≡◌, ◌≤◌, length};
 ghost use Rattle.model.specs.Answers.{step_reply};
 ghost use Rattle.layout.specs.Sound.{sound_wordsb};
 ghost use Rattle.search_words.specs.Record.{record_words};
 ghost use Rattle.board.specs.Board.{answer_number, answer_numbers, step_waits, strange as strange_words, Kept, sizedb, WordsNeeded, OpenCalled, InitializeCalled, PlanCalled, StepCalled, SolveCalled, RetraceCalled};
 
+use layout::GraphSize;
 use model::limits::{MAX_EDGES, MAX_SLOTS, MAX_VERTICES};
-use model::{
-    InitializeAnswer, OpenAnswer, RetraceAnswer, Search, SearchStatus, StepAnswer, number,
-};
+use model::{Refusal, Search, SearchStatus, number};
 use search_words::{RECORD_WORDS, decode, encode, is_record};
 
 // How many words a cache needs; refused 4 where a count is over its limit or the slots are not 1 to 64.
@@ -30,7 +29,7 @@ pub extern "C" fn perillabeam_words_needed(
         *needed = 0;
         return 4;
     }
-    *needed = layout::words_needed(vertices, edges, slots);
+    *needed = GraphSize { vertices, edges }.words_needed(slots);
     0
 }
 
@@ -46,13 +45,13 @@ pub extern "C" fn perillabeam_open(
     ensures { OpenCalled words.old text.now direction slots result line.new words.new }
 {
     match cache::open(words, text, direction, slots) {
-        OpenAnswer::Opened => {
+        Ok(()) => {
             *line = 0;
             0
         }
-        OpenAnswer::Refused { refusal, line: at } => {
-            *line = at;
-            number(refusal)
+        Err(refused) => {
+            *line = refused.line;
+            number(refused.refusal)
         }
     }
 }
@@ -78,15 +77,12 @@ pub extern "C" fn perillabeam_initialize(
     if search.len() < RECORD_WORDS {
         return strange(words);
     }
-    let opened = dijkstra::initialize(words, starts, goals);
-    let answer = opened.answer;
-    match answer {
-        InitializeAnswer::Initialized => {
-            let next = opened.search;
+    match dijkstra::initialize(words, starts, goals) {
+        Ok(next) => {
             encode(next, search);
             0
         }
-        InitializeAnswer::Refused { refusal, line: _ } => number(refusal),
+        Err(refusal) => number(refusal),
     }
 }
 
@@ -104,11 +100,14 @@ pub extern "C" fn perillabeam_step(
         return strange(words);
     }
     let stepped = dijkstra::step(words, decode(search));
-    let told = stepped.answer;
-    let next = stepped.search;
-    keep(told, next, search);
-    *answer = answer_numbers(told, step_waits(told), stepped.tickets, false);
-    answer_number(told)
+    keep(stepped.answer, stepped.search, search);
+    *answer = answer_numbers(
+        stepped.answer,
+        step_waits(stepped.answer),
+        stepped.tickets,
+        false,
+    );
+    answer_number(stepped.answer)
 }
 
 // `planner::solve` on the record that the words hold.
@@ -126,11 +125,9 @@ pub extern "C" fn perillabeam_solve(
         return strange(words);
     }
     let taken = planner::solve(words, decode(search), steps);
-    let told = taken.answer;
-    let next = taken.search;
-    keep(told, next, search);
-    *answer = answer_numbers(told, taken.waits, taken.tickets, false);
-    answer_number(told)
+    keep(taken.answer, taken.search, search);
+    *answer = answer_numbers(taken.answer, taken.waits, taken.tickets, false);
+    answer_number(taken.answer)
 }
 
 // `planner::plan`; the record is written where it is accepted.
@@ -150,11 +147,14 @@ pub extern "C" fn perillabeam_plan(
         return strange(words);
     }
     let planned = planner::plan(words, starts, goals, path);
-    let told = planned.answer;
-    let next = planned.search;
-    keep(told, next, search);
-    *answer = answer_numbers(told, planned.waits, planned.tickets, planned.has_path);
-    answer_number(told)
+    keep(planned.answer, planned.search, search);
+    *answer = answer_numbers(
+        planned.answer,
+        planned.waits,
+        planned.tickets,
+        planned.has_path,
+    );
+    answer_number(planned.answer)
 }
 
 // `dijkstra::retrace` on the record that the words hold.
@@ -172,11 +172,11 @@ pub extern "C" fn perillabeam_retrace(
         return strange(words);
     }
     match dijkstra::retrace(words, decode(search), path) {
-        RetraceAnswer::Moves(m) => {
+        Ok(m) => {
             *moves = m;
             0
         }
-        RetraceAnswer::Refused { refusal, line: _ } => {
+        Err(refusal) => {
             *moves = 0;
             number(refusal)
         }
@@ -187,16 +187,7 @@ pub extern "C" fn perillabeam_retrace(
 fn is_sized(vertices: usize, edges: usize, slots: usize) -> bool
     ensures { result ≡ sizedb vertices edges slots }
 {
-    if MAX_VERTICES < vertices {
-        return false;
-    }
-    if MAX_EDGES < edges {
-        return false;
-    }
-    if slots == 0 {
-        return false;
-    }
-    slots <= MAX_SLOTS
+    vertices <= MAX_VERTICES && edges <= MAX_EDGES && 1 <= slots && slots <= MAX_SLOTS
 }
 
 // Of a record's words that are none: 7 comes before 8.
@@ -210,70 +201,51 @@ fn strange(words: &[u32]) -> u32
 }
 
 // The record is written, unless the call was refused.
-fn keep(told: StepAnswer, next: Search, search: &mut [u32])
+fn keep(told: Result<SearchStatus, Refusal>, next: Search, search: &mut [u32])
     requires { record_words ≤ length search.old }
     ensures { Kept (step_reply told) next search.old search.new }
 {
-    if let StepAnswer::Status(_) = told {
+    if told.is_ok() {
         encode(next, search);
     }
 }
 
 // 0, or the refusal's number.
-fn answer_number(told: StepAnswer) -> u32
+fn answer_number(told: Result<SearchStatus, Refusal>) -> u32
     ensures { result ≡ answer_number (step_reply told) }
 {
     match told {
-        StepAnswer::Status(_) => 0,
-        StepAnswer::Refused { refusal, line: _ } => number(refusal),
+        Ok(_) => 0,
+        Err(refusal) => number(refusal),
     }
 }
 
 // Whether the step waited.
-fn step_waits(told: StepAnswer) -> usize
+fn step_waits(told: Result<SearchStatus, Refusal>) -> usize
     ensures { result ≡ step_waits (step_reply told) }
 {
     match told {
-        StepAnswer::Refused {
-            refusal: _,
-            line: _,
-        } => 0,
-        StepAnswer::Status(status) => match status {
-            SearchStatus::Incomplete => 1,
-            SearchStatus::Solved {
-                total_cost: _,
-                moves: _,
-            } => 0,
-            SearchStatus::Impossible => 0,
-        },
+        Ok(SearchStatus::Incomplete) => 1,
+        _ => 0,
     }
 }
 
 // Status, total cost, moves, waits, tickets, and whether the path was written.
-fn answer_numbers(told: StepAnswer, waits: usize, tickets: usize, has_path: bool) -> [usize; 6]
+fn answer_numbers(
+    told: Result<SearchStatus, Refusal>,
+    waits: usize,
+    tickets: usize,
+    has_path: bool,
+) -> [usize; 6]
     ensures { result ≡ answer_numbers (step_reply told) waits tickets has_path }
 {
-    let path = one_if(has_path);
+    let path = usize::from(has_path);
     match told {
-        StepAnswer::Refused {
-            refusal: _,
-            line: _,
-        } => [0; 6],
-        StepAnswer::Status(status) => match status {
-            SearchStatus::Incomplete => [1, 0, 0, waits, tickets, path],
-            SearchStatus::Solved { total_cost, moves } => {
-                [2, total_cost as usize, moves, waits, tickets, path]
-            }
-            SearchStatus::Impossible => [3, 0, 0, waits, tickets, path],
-        },
+        Err(_) => [0; 6],
+        Ok(SearchStatus::Incomplete) => [1, 0, 0, waits, tickets, path],
+        Ok(SearchStatus::Solved { total_cost, moves }) => {
+            [2, total_cost as usize, moves, waits, tickets, path]
+        }
+        Ok(SearchStatus::Impossible) => [3, 0, 0, waits, tickets, path],
     }
-}
-
-fn one_if(b: bool) -> usize
-    ensures { result ≡ cond b 1 0 }
-{
-    if b {
-        return 1;
-    }
-    0
 }

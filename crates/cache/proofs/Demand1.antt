@@ -1,15 +1,17 @@
 -- Demand 1 of opening.
 -- Assumes nothing.
 use mathlib.Core.Path.{◌≡◌, refl, sym, ap, ◌∙◌, subst}
+use Rattle.std.specs.declared.result.Result.{Result}
+use Rattle.model.specs.declared.Refused.{Refused}
+use Rattle.std.specs.declared.option.Option.{Option}
+use Rattle.std.specs.Prelude.{None, Some}
 use mathlib.Core.Bool.{Bool, true, false}
 use mathlib.Core.List.{List}
-use mathlib.Core.Option.{Option, none, some}
 use Prim.Native.Nat.{ℕ, ◌≤◌}
 use native.Mathlib.Omega.{arith}
 use lib.Dec.{leb, ltb}
 use lib.ListN.{length}
 use borrow.Author.Tests.{ltb-false, leb-true, not-false}
-use Rattle.model.specs.declared.OpenAnswer.{OpenAnswer}
 use Rattle.model.specs.Answers.{number, Reply, answered, refused, open_reply}
 use Rattle.model.specs.Graph.{Graph, Accepted, vertex_count, edge_count}
 use Rattle.model.specs.Calls.{first_fault}
@@ -38,8 +40,8 @@ refused-read (answered g) ws d t n line e = go (ltb (length ws) (needed (vertex_
     go false q = absurd (answered-refused tt n line q)
 
 refused-by : (f : Option ℕ) (ws text : List ℕ) (d t n line : ℕ) → (open_by f ws text d t).reply ≡ refused n line → (open_by f ws text d t).words ≡ ws
-refused-by (some k) ws text d t n line e = refl
-refused-by none ws text d t n line e = refused-read (read_graph text) ws d t n line e
+refused-by (Some k) ws text d t n line e = refl
+refused-by None ws text d t n line e = refused-read (read_graph text) ws d t n line e
 
 -- ---- accepted
 
@@ -75,8 +77,8 @@ module _ (ws text : List ℕ) (d t : ℕ) (within : d ≤ 1) (slots : (1 ≤ t) 
 opens_by : (f : Option ℕ) (ws text : List ℕ) (d t : ℕ) → first_fault (measure_faults d t) ≡ f → (open_by f ws text d t).reply ≡ answered tt
     → Opens ws text d t (open_by f ws text d t).words
 unfolding read_graph
-opens_by (some n) ws text d t q e = absurd (answered-refused tt _ _ (sym e))
-opens_by none ws text d t q e =
+opens_by (Some n) ws text d t q e = absurd (answered-refused tt _ _ (sym e))
+opens_by None ws text d t q e =
     let direction = or-none _ _ _ q in
     let count = or-none _ _ _ direction.1 in
     let both = and-true (leb 1 t) (leb t 64) (not-false _ count.0) in
@@ -87,7 +89,7 @@ opens_by none ws text d t q e =
 pub demand-1 : Demand1OfOpen
 unfolding open_cache
 demand-1 ws text d t r left p = record {
-  refused = λ f line e. left_is ∙ refused-by faults ws text d t (number f) line (reply-is e);
+  refused = λ f e. left_is ∙ refused-by faults ws text d t (number f.refusal) f.line (reply-is e);
   opened = λ e. subst (Opens ws text d t) (sym left_is) (opens_by faults ws text d t refl (reply-is e));
 }
   where
@@ -97,5 +99,5 @@ demand-1 ws text d t r left p = record {
     left_is : left ≡ (open_cache ws text d t).words
     left_is = ap (λ (x : AfterOpen). x.words) p
 
-    reply-is : {q : OpenAnswer} → r ≡ q → (open_cache ws text d t).reply ≡ open_reply q
+    reply-is : {q : Result (Unit {0}) Refused} → r ≡ q → (open_cache ws text d t).reply ≡ open_reply q
     reply-is e = sym (ap (λ (x : AfterOpen). x.reply) p) ∙ ap open_reply e

@@ -1,11 +1,11 @@
 -- Opening 01's chart, word by word, and the order of the refusals, by computation.
 -- Assumes nothing.
 use mathlib.Core.Path.{◌≡◌, refl, sym, ap}
+use Rattle.std.specs.Prelude.{Err, Ok}
 use mathlib.Core.List.{[], ◌∷◌, ◌++◌}
 use Prim.Native.Nat.{ℕ}
 use native.Mathlib.Omega.{arith}
 use lib.ListN.{replicate, get_or}
-use Rattle.model.specs.declared.OpenAnswer.TheVariants.{Opened, Refused}
 use Rattle.model.specs.declared.Refusal.TheVariants.{OutOfOrder, OverLimit}
 use Rattle.model.specs.Answers.{answered, refused}
 use Rattle.model.proofs.Replies.{answered-refused}
@@ -156,21 +156,21 @@ reads-tree = refl
 -- ---- what the promise of `open` shuts out: answers and words that a wrong program would leave, on 01's chart and on a text with a fault
 
 -- an opening that writes nothing
-no-word-written : Opening (replicate 55 7) (bytes example_text) 0 1 Opened (replicate 55 7) → ⊥
+no-word-written : Opening (replicate 55 7) (bytes example_text) 0 1 (Ok tt) (replicate 55 7) → ⊥
 unfolding open_cache
 no-word-written p = let e : ◌≡◌ {A = ℕ} 7 0 = ap (λ (x : AfterOpen). get_or x.words 0 0) p in omega arith
 
 -- a header written before the fault of the second line was found
-header-before-fault : Opening (replicate 3 7) (bytes "M,0,0\nM,2,0\n") 0 1 (Refused OutOfOrder 2) (0 ∷ 7 ∷ 7 ∷ []) → ⊥
+header-before-fault : Opening (replicate 3 7) (bytes "M,0,0\nM,2,0\n") 0 1 (Err (record { refusal = OutOfOrder; line = 2 })) (0 ∷ 7 ∷ 7 ∷ []) → ⊥
 unfolding open_cache
 header-before-fault p = let e : ◌≡◌ {A = ℕ} 0 7 = ap (λ (x : AfterOpen). get_or x.words 0 0) p in omega arith
 
 -- every opening refused
-always-refused : Opening (replicate 55 7) (bytes example_text) 0 1 (Refused OverLimit 0) (replicate 55 7) → ⊥
+always-refused : Opening (replicate 55 7) (bytes example_text) 0 1 (Err (record { refusal = OverLimit; line = 0 })) (replicate 55 7) → ⊥
 unfolding open_cache
 always-refused p = answered-refused tt 4 0 (sym (ap (λ (x : AfterOpen). x.reply) p))
 
 -- a word past those needed cleared as well
-past-cleared : Opening (replicate 15 7) [] 1 1 Opened ((1 ∷ 0 ∷ 0 ∷ 1 ∷ []) ++ replicate 11 0) → ⊥
+past-cleared : Opening (replicate 15 7) [] 1 1 (Ok tt) ((1 ∷ 0 ∷ 0 ∷ 1 ∷ []) ++ replicate 11 0) → ⊥
 unfolding open_cache
 past-cleared p = let e : ◌≡◌ {A = ℕ} 0 7 = ap (λ (x : AfterOpen). get_or x.words 14 0) p in omega arith

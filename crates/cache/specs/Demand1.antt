@@ -1,10 +1,9 @@
 -- Demand 1 of opening: what a refused and an accepted opening leave of the words lent.
 -- Assumes nothing.
-use Rattle.std.specs.Prelude.{◌≡◌, List, ℕ, ◌≤◌, length, get_or}
+use Rattle.std.specs.Prelude.{◌≡◌, List, ℕ, ◌≤◌, length, get_or, Err, Ok}
+use Rattle.std.specs.declared.result.Result.{Result}
+use Rattle.model.specs.declared.Refused.{Refused}
 use Rattle.model.specs.Limits.{slot_limit}
-use Rattle.model.specs.declared.OpenAnswer.{OpenAnswer}
-use Rattle.model.specs.declared.OpenAnswer.TheVariants.{Opened, Refused}
-use Rattle.model.specs.declared.Refusal.{Refusal}
 use Rattle.model.specs.Answers.{answered}
 use Rattle.model.specs.Graph.{Graph, Accepted, vertex_count, edge_count}
 use Rattle.model.specs.Calls.{opened, written}
@@ -29,10 +28,10 @@ pub record Opens (ws text : List ℕ) (d t : ℕ) (left : List ℕ) : Type 0 whe
   pub past : (i : ℕ) → needed (vertex_count graph) (edge_count graph) t ≤ i → get_or left i 0 ≡ get_or ws i 0
 
 -- of every call of `open`, by nothing but its promise: "hold, after any refused call, what they held before it"
-pub record Demand1 (ws text : List ℕ) (d t : ℕ) (r : OpenAnswer) (left : List ℕ) : Type 0 where
-  pub refused : (f : Refusal) (line : ℕ) → r ≡ Refused f line → left ≡ ws
-  pub opened : r ≡ Opened → Opens ws text d t left
+pub record Demand1 (ws text : List ℕ) (d t : ℕ) (r : Result (Unit {0}) Refused) (left : List ℕ) : Type 0 where
+  pub refused : (f : Refused) → r ≡ Err f → left ≡ ws
+  pub opened : r ≡ Ok tt → Opens ws text d t left
 
 abbrev pub Demand1OfOpen : Type 0
 Demand1OfOpen =
-    (ws text : List ℕ) (d t : ℕ) (r : OpenAnswer) (left : List ℕ) → Opening ws text d t r left → Demand1 ws text d t r left
+    (ws text : List ℕ) (d t : ℕ) (r : Result (Unit {0}) Refused) (left : List ℕ) → Opening ws text d t r left → Demand1 ws text d t r left

@@ -1,9 +1,10 @@
 -- Opening a cache: 01 calls it opening a book.
 -- Assumes nothing.
-use Rattle.std.specs.Prelude.{◌≡◌, Bool, true, false, not, ◌&&◌, List, [], ◌∷◌, ℕ, ◌≤◌, leb, ltb, length}
-use Rattle.std.proofs.Math.Option.{Option, none, some}
+use Rattle.std.specs.Prelude.{◌≡◌, Bool, true, false, not, ◌&&◌, List, [], ◌∷◌, ℕ, ◌≤◌, leb, ltb, length, None, Some}
+use Rattle.std.specs.declared.result.Result.{Result}
+use Rattle.model.specs.declared.Refused.{Refused}
+use Rattle.std.specs.declared.option.Option.{Option}
 use Rattle.model.specs.Limits.{slot_limit}
-use Rattle.model.specs.declared.OpenAnswer.{OpenAnswer}
 use Rattle.model.specs.Answers.{Reply, answered, refused, open_reply}
 use Rattle.model.specs.Graph.{Graph, vertex_count, edge_count}
 use Rattle.model.specs.Calls.{Fault, first_fault, written}
@@ -36,8 +37,8 @@ open_read (answered g) ws direction slots =
     open_if (ltb (length ws) (needed (vertex_count g) (edge_count g) slots)) g ws direction slots
 
 abbrev pub open_by : Option ℕ → List ℕ → List ℕ → ℕ → ℕ → AfterOpen
-open_by (some n) ws text direction slots = record { reply = refused n 0; words = ws }
-open_by none ws text direction slots = open_read (read_graph text) ws direction slots
+open_by (Some n) ws text direction slots = record { reply = refused n 0; words = ws }
+open_by None ws text direction slots = open_read (read_graph text) ws direction slots
 
 -- words lent, text, direction, slots
 unfoldable pub open_cache : List ℕ → List ℕ → ℕ → ℕ → AfterOpen
@@ -47,11 +48,11 @@ open_cache ws text direction slots = open_by (first_fault (measure_faults direct
 -- ---- what the code promises
 
 -- an answer and the words left
-abbrev pub after_open : OpenAnswer → List ℕ → AfterOpen
+abbrev pub after_open : Result (Unit {0}) Refused → List ℕ → AfterOpen
 after_open r ws = record { reply = open_reply r; words = ws }
 
 -- the promise of `open`: answer and words left are the definition's, whatever words, text, direction and slots it is handed
-abbrev pub Opening : List ℕ → List ℕ → ℕ → ℕ → OpenAnswer → List ℕ → Type 0
+abbrev pub Opening : List ℕ → List ℕ → ℕ → ℕ → Result (Unit {0}) Refused → List ℕ → Type 0
 Opening ws text direction slots r left = after_open r left ≡ open_cache ws text direction slots
 
 -- the text has no fault and is of these counts; direction and slots are within their limits

@@ -1,14 +1,14 @@
 -- A list of calls by name is one of the calls that they are made of, so that the demands on those hold of it.
 -- Assumes nothing.
 use mathlib.Core.Path.{◌≡◌, refl, sym, subst}
+use Rattle.std.specs.declared.result.Result.{Result}
+use Rattle.model.specs.declared.Refusal.{Refusal}
+use Rattle.std.specs.Prelude.{Err, Ok}
 use mathlib.Core.Bool.{true, true≢false}
 use mathlib.Core.List.{List, ◌++◌}
 use Prim.Native.Nat.{ℕ}
-use Rattle.model.specs.declared.InitializeAnswer.TheVariants.{Initialized}
-use Rattle.model.specs.declared.OpenAnswer.TheVariants as opening
 use Rattle.model.specs.declared.Planned.{Planned}
 use Rattle.model.specs.declared.Search.{Search}
-use Rattle.model.specs.declared.SearchOpened.{SearchOpened}
 use Rattle.model.specs.Answers.{is_answered, step_reply}
 use Rattle.model.specs.Solve.{max_steps}
 use Rattle.model.specs.Demands.{Call, reading, Act, Event}
@@ -66,8 +66,8 @@ called-made (called_solve s n r p) = in-lists _ s n r _ p
 called-made (called_retrace s p r q e) = made.made_retrace s p r q e
 called-made (called_plan ss gs p r q k) = plan-in-lists _ ss gs p r _ q k
 called-made (called_is_sound r e) = made.made_reading
-called-made (called_open {ws = ws} {left = left} text d t f line p) =
-    let kept = (cache.demand-1 ws text d t (opening.Refused f line) left p).refused f line refl in
+called-made (called_open {ws = ws} {left = left} text d t f p) =
+    let kept = (cache.demand-1 ws text d t (Err f) left p).refused f refl in
     subst (λ (l : List ℕ). made.Made ws reading l) (sym kept) made.made_reading
 
 -- ---- and in the chain of the search whose own it is
@@ -84,7 +84,7 @@ called-own (called_solve s n r p) = λ acts es. in-chains _ s n r _ acts es p.ca
 called-own (called_retrace s p r q e) = λ acts es. made.own-retrace p r q e
 called-own (called_plan ss gs p r q k) = tt
 called-own (called_is_sound r e) = tt
-called-own (called_open text d t f line p) = tt
+called-own (called_open text d t f p) = tt
 
 -- ---- lists of them
 
@@ -99,21 +99,20 @@ chain-made (between x c k) = made.between x (called-made c) (chain-made k)
 
 -- the opening that a search was opened by, and the chain of its own calls from there
 record Opened (ws ss gs : List ℕ) (acts : List Act) (es : List Event) : Type 0 where
-  search : SearchOpened
+  search : Search
   next : List ℕ
-  initializes : Initializing ws ss gs search next
-  accepted : search.answer ≡ Initialized
-  chain : made.Chain next search.search acts es
+  initializes : Initializing ws ss gs (Ok search) next
+  chain : made.Chain next search acts es
 
 -- one by `plan`: it was accepted, since it answered
 planned-opened : {ws ss gs p : List ℕ} {r : Planned} {left q : List ℕ} → CallsMade ws ss gs p r left q → is_answered (step_reply r.answer) ≡ true
     → {acts : List Act} {es : List Event} → made.Chain left r.search acts es → Opened ws ss gs (acts_of (steps_in r) ++ acts) (events_of (steps_in r) ++ es)
-planned-opened (not_opened o f line i e) told k = absurd (true≢false (sym told))
-planned-opened (to_the_end {mid = mid} {left = left} o e t i a s x) told {acts} {es} k =
-    record { search = o; next = mid; initializes = i; accepted = a; chain = in-chains mid o.search max_steps e left acts es s.called k }
+planned-opened (not_opened f i) told k = absurd (true≢false (sym told))
+planned-opened (to_the_end {mid = mid} {left = left} y e t i s x) told {acts} {es} k =
+    record { search = y; next = mid; initializes = i; chain = in-chains mid y max_steps e left acts es s.called k }
 
 searched-opened : {ws ss gs : List ℕ} {acts : List Act} {es : List Event} → Searched ws ss gs acts es → Opened ws ss gs acts es
-searched-opened (by_initialize {left = left} r p e k) = record { search = r; next = left; initializes = p; accepted = e; chain = chain-made k }
+searched-opened (by_initialize {left = left} s p k) = record { search = s; next = left; initializes = p; chain = chain-made k }
 searched-opened (by_plan {q = q} p r t k e x c) = planned-opened k.called e (made.own-retrace p t q x (chain-made c))
 
 pub history-made : {text : List ℕ} {d t : ℕ} {before : List Call} {ss gs : List ℕ} {acts : List Act} {es : List Event}
@@ -129,7 +128,6 @@ history-made h =
       search = o.search;
       next = o.next;
       initializes = o.initializes;
-      accepted = o.accepted;
       chain = o.chain;
     }
 

@@ -3,15 +3,13 @@
 -- And a list whose search `plan` opens.
 -- Assumes nothing.
 use mathlib.Core.Path.{◌≡◌, refl}
+use Rattle.std.specs.Prelude.{Err, Ok}
 use mathlib.Core.Bool.{true, false}
 use mathlib.Core.List.{List, [], ◌∷◌}
 use native.Mathlib.Omega.{arith}
-use Rattle.model.specs.declared.OpenAnswer.TheVariants as opening
 use Rattle.model.specs.declared.Planned.{Planned}
 use Rattle.model.specs.declared.Refusal.TheVariants.{NoSuchVertex, OverLimit}
-use Rattle.model.specs.declared.RetraceAnswer.TheVariants as retracing
 use Rattle.model.specs.declared.SearchStatus.TheVariants.{Incomplete, Solved}
-use Rattle.model.specs.declared.StepAnswer.TheVariants as stepping
 use Rattle.model.specs.Worth.{weight, solution_cost_of}
 use Rattle.model.specs.Answers.{answered, waiting, solved}
 use Rattle.model.specs.Path.{path}
@@ -24,7 +22,6 @@ use Rattle.text.proofs.Examples.{example_text}
 use Rattle.layout.specs.Read.{read_cache}
 use Rattle.layout.specs.Sound.{sound_wordsb}
 use Rattle.cache.specs.Open.{Opening, open_cache}
-use Rattle.opening.specs.Initialize.{not_opened_by}
 use Rattle.dijkstra.specs.Calls.{Initializing}
 use Rattle.dijkstra.specs.Demands.{Same, Right}
 use Rattle.dijkstra.proofs.HistoryExample.{words0, words1, words2, words3, opened_search, found_search, finished_search, opens, opened0, initializes, waits, step1, step2, solved7, step3, opened_between, initializes-between, slice, shown, shows}
@@ -45,20 +42,20 @@ unfolding sound_wordsb words0
 is-sound = refl
 
 abbrev first : StepReport
-first = record { answer = stepping.Status Incomplete; tickets = 3 }
+first = record { answer = Ok Incomplete; tickets = 3 }
 
 -- one step waits, with a ticket, and the next one answers
 abbrev rest : StepsTaken
-rest = record { answer = stepping.Status (Solved 7 2); waits = 1; tickets = 1; search = finished_search }
+rest = record { answer = Ok (Solved 7 2); waits = 1; tickets = 1; search = finished_search }
 
 solves : Solving words2 found_search 9 rest words3
 solves =
     steps-solve words2 found_search 9 rest words3
-    (one_ends solved7 (stepping.Status (Solved 7 2)) (omega arith) (once_more (waits finished_search 1) at_first step2 refl) step3 refl refl)
+    (one_ends solved7 (Ok (Solved 7 2)) (omega arith) (once_more (waits finished_search 1) at_first step2 refl) step3 refl refl)
 
 -- how the finished search stands
 abbrev stands : StepsTaken
-stands = record { answer = stepping.Status (Solved 7 2); waits = 0; tickets = 0; search = finished_search }
+stands = record { answer = Ok (Solved 7 2); waits = 0; tickets = 0; search = finished_search }
 
 unfoldable looks : Solving words3 finished_search 0 stands words3
 unfolding sound_wordsb read_cache words3 solve path weight solution_cost_of
@@ -70,10 +67,10 @@ looks = record {
   cache = refl;
   sound = refl;
   words = refl;
-  called = one_ends {w = 0} solved7 (stepping.Status (Solved 7 2)) (omega arith) at_first step3 refl refl;
+  called = one_ends {w = 0} solved7 (Ok (Solved 7 2)) (omega arith) at_first step3 refl refl;
 }
 
-refused-open : Opening words3 [] 2 1 (opening.Refused OverLimit 0) words3
+refused-open : Opening words3 [] 2 1 (Err (record { refusal = OverLimit; line = 0 })) words3
 unfolding open_cache
 refused-open = refl
 
@@ -110,13 +107,13 @@ history = record {
   mid = words0;
   called = and_then (called_is_sound true is-sound) none_called;
   searched =
-      by_initialize opened0 initializes refl (
+      by_initialize opened_search initializes (
       own_call (called_step_in_place opened_search found_search first step1) (
       between (initializing (0 ∷ []) (1 ∷ [])) (called_initialize (0 ∷ []) (1 ∷ []) opened_between initializes-between) (
       own_call (called_solve found_search 9 rest solves) (
       between (both reading (steppingCall finished_search)) (called_solve finished_search 0 stands looks) (
-      own_call (called_retrace finished_search slice (retracing.Moves 2) shown shows) (
-      between reading (called_open [] 2 1 OverLimit 0 refused-open) ends))))));
+      own_call (called_retrace finished_search slice (Ok 2) shown shows) (
+      between reading (called_open [] 2 1 (record { refusal = OverLimit; line = 0 }) refused-open) ends))))));
 }
 
 -- the Rust answers the same
@@ -131,25 +128,25 @@ right = demand-3 (bytes example_text) 0 1 before (0 ∷ []) (2 ∷ []) acts even
 -- again, and a second `plan` is refused
 
 abbrev whole : StepsTaken
-whole = record { answer = stepping.Status (Solved 7 2); waits = 2; tickets = 4; search = finished_search }
+whole = record { answer = Ok (Solved 7 2); waits = 2; tickets = 4; search = finished_search }
 
 solves-whole : Solving words1 opened_search max_steps whole words3
 solves-whole =
     steps-solve words1 opened_search max_steps whole words3
-    (one_ends solved7 (stepping.Status (Solved 7 2)) (omega arith) (once_more (waits finished_search 1) (once_more (waits found_search 3) at_first step1 refl) step2 refl) step3 refl refl)
+    (one_ends solved7 (Ok (Solved 7 2)) (omega arith) (once_more (waits finished_search 1) (once_more (waits found_search 3) at_first step1 refl) step2 refl) step3 refl refl)
 
 abbrev planned7 : Planned
-planned7 = record { answer = stepping.Status (Solved 7 2); has_path = true; waits = 2; tickets = 4; search = finished_search }
+planned7 = record { answer = Ok (Solved 7 2); has_path = true; waits = 2; tickets = 4; search = finished_search }
 
 plans : Planning words0 (0 ∷ []) (2 ∷ []) slice planned7 words3 shown
 plans =
     calls-plan words0 (0 ∷ []) (2 ∷ []) slice planned7 words3 shown
-    (to_the_end opened0 whole (retracing.Moves 2) initializes refl solves-whole shows)
+    (to_the_end opened_search whole (Ok 2) initializes solves-whole shows)
 
 abbrev refused_plan : Planned
-refused_plan = record { answer = stepping.Refused NoSuchVertex 0; has_path = false; waits = 0; tickets = 0; search = empty_search }
+refused_plan = record { answer = Err NoSuchVertex; has_path = false; waits = 0; tickets = 0; search = empty_search }
 
-refused-opening : Initializing words3 (0 ∷ []) (4 ∷ []) (not_opened_by NoSuchVertex) words3
+refused-opening : Initializing words3 (0 ∷ []) (4 ∷ []) (Err NoSuchVertex) words3
 unfolding sound_wordsb words3 initialize read_cache weight solution_cost_of
 refused-opening = record { answer = refl; search = refl; words = refl; cache = refl; sound = refl }
 
@@ -164,7 +161,7 @@ refuses = record {
   path = refl;
   cache = refl;
   sound = refl;
-  called = not_opened (not_opened_by NoSuchVertex) NoSuchVertex 0 refused-opening refl;
+  called = not_opened NoSuchVertex refused-opening;
 }
 
 abbrev plan_acts : List Act
@@ -188,8 +185,8 @@ plan-history = record {
   mid = words0;
   called = none_called;
   searched =
-      by_plan slice planned7 (retracing.Moves 2) plans refl shows (
-      own_call (called_retrace finished_search slice (retracing.Moves 2) shown shows) (
+      by_plan slice planned7 (Ok 2) plans refl shows (
+      own_call (called_retrace finished_search slice (Ok 2) shown shows) (
       between (initializing (0 ∷ []) (4 ∷ [])) (called_plan (0 ∷ []) (4 ∷ []) slice refused_plan slice refuses) ends));
 }
 

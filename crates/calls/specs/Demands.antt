@@ -1,14 +1,12 @@
 -- The demands on lists of calls by name. Each exported call stands here once, with the promise that its `ensures` states and with what it
 -- is among the model's calls: one of the three, one that only reads, or one made of others. A new call is one constructor more of `Called`.
 -- Assumes nothing.
-use Rattle.std.specs.Prelude.{◌≡◌, Bool, true, List, [], ◌∷◌, ◌++◌, ℕ}
-use Rattle.model.specs.declared.InitializeAnswer.TheVariants.{Initialized}
-use Rattle.model.specs.declared.OpenAnswer.TheVariants as opening
+use Rattle.std.specs.Prelude.{◌≡◌, Bool, true, List, [], ◌∷◌, ◌++◌, ℕ, Err, Ok}
+use Rattle.model.specs.declared.Refused.{Refused}
+use Rattle.std.specs.declared.result.Result.{Result}
 use Rattle.model.specs.declared.Planned.{Planned}
 use Rattle.model.specs.declared.Refusal.{Refusal}
-use Rattle.model.specs.declared.RetraceAnswer.{RetraceAnswer}
 use Rattle.model.specs.declared.Search.{Search}
-use Rattle.model.specs.declared.SearchOpened.{SearchOpened}
 use Rattle.model.specs.declared.Stepped.{Stepped}
 use Rattle.model.specs.Answers.{is_answered, step_reply}
 use Rattle.model.specs.Demands.{Call, initializing, stepping, retracing, reading, Act, own_step, own_retrace, other, Event, stepped, retraced}
@@ -43,19 +41,19 @@ pub data Part : Type 0 where
 -- one call on the words ws, which leaves the words left: accepted or refused, with any lists, any record and any slice. An `open` that is
 -- refused may stand among them; one that is accepted begins another list. The promise of `step_lent` is that of `step`
 pub data Called : List ℕ → Call → List ℕ → Part → Type 0 where
-  called_initialize : {ws left : List ℕ} (ss gs : List ℕ) (r : SearchOpened) → Initializing ws ss gs r left → Called ws (initializing ss gs) left no_part
+  called_initialize : {ws left : List ℕ} (ss gs : List ℕ) (r : Result Search Refusal) → Initializing ws ss gs r left → Called ws (initializing ss gs) left no_part
   called_step : {ws left : List ℕ} (s : Search) (r : Stepped) → Stepping ws s r left
       → Called ws (stepping s) left (own s (own_step ∷ []) (stepped (step_reply r.answer) ∷ []) r.search)
   called_step_in_place : {ws left : List ℕ} (s s' : Search) (r : StepReport) → Stepping ws s (stepped_as r s') left
       → Called ws (stepping s) left (own s (own_step ∷ []) (stepped (step_reply r.answer) ∷ []) s')
   called_solve : {ws left : List ℕ} (s : Search) (n : ℕ) (r : StepsTaken) (p : Solving ws s n r left)
       → Called ws (solving_call p.called) left (own s (acts_of r) (events_of r) r.search)
-  called_retrace : {ws : List ℕ} (s : Search) (p : List ℕ) (r : RetraceAnswer) (q : List ℕ) → Retracing ws s p r q
+  called_retrace : {ws : List ℕ} (s : Search) (p : List ℕ) (r : Result ℕ Refusal) (q : List ℕ) → Retracing ws s p r q
       → Called ws (retracing s p) ws (own s (own_retrace p ∷ []) (retraced p (after_retrace r q) ∷ []) s)
   called_plan : {ws left : List ℕ} (ss gs p : List ℕ) (r : Planned) (q : List ℕ) (k : Planning ws ss gs p r left q)
       → Called ws (planning_call k.called) left no_part
   called_is_sound : {ws : List ℕ} (r : Bool) → r ≡ sound_wordsb ws → Called ws reading ws no_part
-  called_open : {ws left : List ℕ} (text : List ℕ) (d t : ℕ) (f : Refusal) (line : ℕ) → Opening ws text d t (opening.Refused f line) left
+  called_open : {ws left : List ℕ} (text : List ℕ) (d t : ℕ) (f : Refused) → Opening ws text d t (Err f) left
       → Called ws reading left no_part
 
 pub data CalledAll : List ℕ → List Call → List ℕ → Type 0 where
@@ -75,9 +73,9 @@ pub data Chain : List ℕ → Search → List Act → List Event → Type 0 wher
 -- a search from ss to gs opened in the words ws, by which call, and the calls after it, of which its own answered es. One that `plan` opened,
 -- which was not refused, has its steps and its retrace among them; t is that retrace's answer, as the slice then holds its path or stays
 pub data Searched (ws ss gs : List ℕ) : List Act → List Event → Type 0 where
-  by_initialize : {left : List ℕ} {acts : List Act} {es : List Event} (r : SearchOpened) → Initializing ws ss gs r left → r.answer ≡ Initialized
-      → Chain left r.search acts es → Searched ws ss gs acts es
-  by_plan : {left q : List ℕ} {acts : List Act} {es : List Event} (p : List ℕ) (r : Planned) (t : RetraceAnswer) → Planning ws ss gs p r left q
+  by_initialize : {left : List ℕ} {acts : List Act} {es : List Event} (s : Search) → Initializing ws ss gs (Ok s) left
+      → Chain left s acts es → Searched ws ss gs acts es
+  by_plan : {left q : List ℕ} {acts : List Act} {es : List Event} (p : List ℕ) (r : Planned) (t : Result ℕ Refusal) → Planning ws ss gs p r left q
       → is_answered (step_reply r.answer) ≡ true → Retracing left r.search p t q → Chain left r.search acts es
       → Searched ws ss gs (acts_of (steps_in r) ++ (own_retrace p ∷ acts)) (events_of (steps_in r) ++ (retraced p (after_retrace t q) ∷ es))
 
@@ -85,7 +83,7 @@ pub data Searched (ws ss gs : List ℕ) : List Act → List Event → Type 0 whe
 pub record History (text : List ℕ) (d t : ℕ) (before : List Call) (ss gs : List ℕ) (acts : List Act) (es : List Event) : Type 0 where
   pub lent : List ℕ
   pub first : List ℕ
-  pub opens : Opening lent text d t opening.Opened first
+  pub opens : Opening lent text d t (Ok tt) first
   pub mid : List ℕ
   pub called : CalledAll first before mid
   pub searched : Searched mid ss gs acts es

@@ -1,16 +1,13 @@
 -- Demand 1 on the calls by their promises: a refused call leaves words, record and slice as they were.
 -- Assumes nothing.
 use mathlib.Core.Path.{◌≡◌, refl, sym, ap, ◌∙◌, subst}
+use Rattle.std.specs.declared.result.Result.{Result}
+use Rattle.std.specs.Prelude.{Err}
 use mathlib.Core.Bool.{Bool, true, false}
 use mathlib.Core.List.{List}
 use Prim.Native.Nat.{ℕ}
-use Rattle.model.specs.declared.RetraceAnswer.{RetraceAnswer}
-use Rattle.model.specs.declared.RetraceAnswer.TheVariants as retracing
-use Rattle.model.specs.declared.InitializeAnswer.TheVariants as initializing
-use Rattle.model.specs.declared.StepAnswer.TheVariants as stepping
 use Rattle.model.specs.declared.Refusal.{Refusal}
 use Rattle.model.specs.declared.Search.{Search}
-use Rattle.model.specs.declared.SearchOpened.{SearchOpened}
 use Rattle.model.specs.declared.Stepped.{Stepped}
 use Rattle.model.specs.Answers.{number, Reply, refused, Status, initialize_reply, step_reply, retrace_reply}
 use Rattle.model.specs.Search.{empty_search, roots_of}
@@ -26,10 +23,6 @@ use Rattle.layout.specs.Layout.{direction_in}
 
 -- ---- the model's law, with refusal 7 before it
 
-initialize-refused : (b : Bool) (c : Cache) (ss gs : List ℕ) (n line : ℕ) → (initialize_if b c ss gs).reply ≡ refused n line → RefusedInitialize c line (initialize_if b c ss gs)
-initialize-refused true c ss gs n line e = model-demand-1.0 c ss gs n line e
-initialize-refused false c ss gs n line e = record { cache = refl; search = refl; lines = cc }
-
 step-refused : (b : Bool) (c : Cache) (s : Search) (n line : ℕ) → (step_sound_if b c s).reply ≡ refused n line → RefusedStep c s line (step_sound_if b c s)
 step-refused true c s n line e = model-demand-1.1 c s n line e
 step-refused false c s n line e = record { cache = refl; search = refl; tickets = refl; lines = cc }
@@ -40,26 +33,21 @@ retrace-refused false c s p n line e = record { path = refl; lines = cc }
 
 -- ---- each call, by its promise
 
-initialize-leaves : (ws ss gs : List ℕ) (r : SearchOpened) (left : List ℕ) → Initializing ws ss gs r left
-    → (f : Refusal) (line : ℕ) → r.answer ≡ initializing.Refused f line → (left ≡ ws) × ((r.search ≡ empty_search) × (line ≡ 0))
-initialize-leaves ws ss gs r left p f line e =
-    let reply : (initialize_words ws ss gs).reply ≡ refused (number f) line = sym p.answer ∙ ap initialize_reply e in
-    let kept = initialize-refused (sound_wordsb ws) (read_cache ws) ss gs (number f) line reply in
-    (p.words ∙ ap (λ (x : Reply (Unit {0})). initialized_words x ws (roots_of (direction_of (direction_in ws)) ss gs)) reply, (p.search ∙ kept.search, kept.lines))
+initialize-leaves : (ws ss gs : List ℕ) (r : Result Search Refusal) (left : List ℕ) → Initializing ws ss gs r left → (f : Refusal) → r ≡ Err f → left ≡ ws
+initialize-leaves ws ss gs r left p f e =
+    p.words ∙ ap (λ (x : Reply (Unit {0})). initialized_words x ws (roots_of (direction_of (direction_in ws)) ss gs)) (sym p.answer ∙ ap initialize_reply e)
 
 step-leaves : (ws : List ℕ) (s : Search) (r : Stepped) (left : List ℕ) → Stepping ws s r left
-    → (f : Refusal) (line : ℕ) → r.answer ≡ stepping.Refused f line → (left ≡ ws) × ((r.search ≡ s) × ((r.tickets ≡ 0) × (line ≡ 0)))
-step-leaves ws s r left p f line e =
-    let reply : (step_words ws s).reply ≡ refused (number f) line = sym p.answer ∙ ap step_reply e in
-    let kept = step-refused (sound_wordsb ws) (read_cache ws) s (number f) line reply in
-    (subst (λ (x : Reply Status). Leaves x ws s left) reply p.words, (p.search ∙ kept.search, (p.tickets ∙ kept.tickets, kept.lines)))
+    → (f : Refusal) → r.answer ≡ Err f → (left ≡ ws) × ((r.search ≡ s) × (r.tickets ≡ 0))
+step-leaves ws s r left p f e =
+    let reply : (step_words ws s).reply ≡ refused (number f) 0 = sym p.answer ∙ ap step_reply e in
+    let kept = step-refused (sound_wordsb ws) (read_cache ws) s (number f) 0 reply in
+    (subst (λ (x : Reply Status). Leaves x ws s left) reply p.words, (p.search ∙ kept.search, p.tickets ∙ kept.tickets))
 
-retrace-leaves : (ws : List ℕ) (s : Search) (p : List ℕ) (r : RetraceAnswer) (q : List ℕ) → Retracing ws s p r q
-    → (f : Refusal) (line : ℕ) → r ≡ retracing.Refused f line → (q ≡ p) × (line ≡ 0)
-retrace-leaves ws s p r q k f line e =
-    let reply : (retrace_words ws s p).reply ≡ refused (number f) line = sym (ap (λ (x : AfterRetrace). x.reply) k) ∙ ap retrace_reply e in
-    let kept = retrace-refused (sound_wordsb ws) (read_cache ws) s p (number f) line reply in
-    (ap (λ (x : AfterRetrace). x.path) k ∙ kept.path, kept.lines)
+retrace-leaves : (ws : List ℕ) (s : Search) (p : List ℕ) (r : Result ℕ Refusal) (q : List ℕ) → Retracing ws s p r q → (f : Refusal) → r ≡ Err f → q ≡ p
+retrace-leaves ws s p r q k f e =
+    let reply : (retrace_words ws s p).reply ≡ refused (number f) 0 = sym (ap (λ (x : AfterRetrace). x.reply) k) ∙ ap retrace_reply e in
+    ap (λ (x : AfterRetrace). x.path) k ∙ (retrace-refused (sound_wordsb ws) (read_cache ws) s p (number f) 0 reply).path
 
 pub demand-1 : Demand1
 demand-1 = (initialize-leaves, step-leaves, retrace-leaves)

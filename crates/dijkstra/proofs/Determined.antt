@@ -1,9 +1,9 @@
 -- What two steps from the same words and record leave is the same, but for the arrangement of the queue words of the entries' trees.
 -- Assumes nothing.
 use mathlib.Core.Path.{◌≡◌, refl, sym, ap, ◌∙◌, subst}
+use Rattle.std.specs.Prelude.{None}
 use mathlib.Core.Logic.{◌⊎◌, inl, inr}
 use mathlib.Core.Bool.{Bool, true, false, not}
-use mathlib.Core.Option.{none}
 use mathlib.Core.List.{List}
 use Prim.Native.Nat.{ℕ, ◌+◌, ◌-◌, ◌<◌, ◌≤◌}
 use native.Mathlib.Decide.{ℕ_discrete, dec_lt}
@@ -61,7 +61,7 @@ valid-if : (c : Cache) (s : Search) (a : Status) → (step c s).reply ≡ answer
 unfolding step
 valid-if c s a = go (valid c.domain c.trees s)
   where
-    go : (v : Bool) → (step_by (or_else (not v) 8 none) c s).reply ≡ answered a → v ≡ true
+    go : (v : Bool) → (step_by (or_else (not v) 8 None) c s).reply ≡ answered a → v ≡ true
     go true e = refl
     go false e = absurd (answered-refused a 8 0 (sym e))
 

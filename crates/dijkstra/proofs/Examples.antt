@@ -1,30 +1,28 @@
 -- The calls on words by computation: 01's chart, with each refusal once; and wrong programs that the promises shut out.
 -- Assumes nothing.
 use mathlib.Core.Path.{◌≡◌, refl, sym, ap, ◌∙◌}
+use Rattle.std.specs.declared.result.Result.{Result}
+use Rattle.model.specs.declared.Refusal.{Refusal}
+use Rattle.std.specs.declared.option.Option.{Option}
+use Rattle.std.specs.Prelude.{None, Some, Ok, Err}
 use mathlib.Core.Bool.{Bool, true, false, true≢false}
 use mathlib.Core.List.{List, [], ◌∷◌, ◌++◌}
 use Prim.Native.Nat.{ℕ}
 use native.Mathlib.Omega.{arith}
 use lib.ListN.{set, take, replicate}
 use Rattle.model.specs.declared.BestSolution.{BestSolution}
-use Rattle.model.specs.declared.BestSolution.TheVariants.{NoBest, Best}
-use Rattle.model.specs.declared.KnownLen.{KnownLen}
-use Rattle.model.specs.declared.KnownLen.TheVariants.{Never, Len}
 use Rattle.model.specs.declared.Refusal.TheVariants.{TreesFull}
 use Rattle.model.specs.declared.SearchStatus.TheVariants.{Incomplete, Impossible}
-use Rattle.model.specs.declared.StepAnswer.TheVariants as stepping
 use Rattle.model.specs.declared.Search.{Search}
-use Rattle.model.specs.declared.SearchOpened.{SearchOpened}
 use Rattle.model.specs.Answers.{Reply, answered, refused, Status, waiting, solved, no_path}
 use Rattle.model.specs.Path.{path, words}
 use Rattle.model.specs.Worth.{weight, solution_cost_of}
-use Rattle.model.specs.Search.{entry, with_entry, with_find, with_known_len, with_exhausted}
+use Rattle.model.specs.Search.{entry, with_entry, with_find, with_known_len, with_exhausted, as_best}
 use Rattle.model.specs.Calls.{initialize, step, retrace}
 use Rattle.layout.specs.Read.{read_cache}
 use Rattle.layout.specs.Sound.{sound_wordsb}
 use Rattle.layout.proofs.Examples.{sample}
 use Rattle.layout.specs.Planted.{planted_all}
-use Rattle.opening.specs.Initialize.{not_opened_by}
 use Rattle.dijkstra.specs.Calls.{initialize_words, initialized_words, Initializing, step_words, Stepping, retrace_words}
 use Rattle.layout.specs.Layout.{trees_in}
 
@@ -85,7 +83,7 @@ unfolding sound_wordsb words0 search0 step weight solution_cost_of
 takes-3 = refl
 
 -- the find is node 3, which came by 1 at cost 7, and not node 2, which was queued first at cost 9
-finds-7 : (step_words words0 search0).search.best_solution ≡ Best 0 3
+finds-7 : (step_words words0 search0).search.best_solution ≡ as_best 0 3
 unfolding sound_wordsb words0 search0 step weight solution_cost_of
 finds-7 = refl
 
@@ -144,35 +142,35 @@ is_waiting (answered (solved k m)) = false
 is_waiting (answered no_path) = false
 is_waiting (refused n line) = false
 
-is_known : KnownLen → Bool
-is_known Never = false
-is_known (Len n) = true
+is_known : Option ℕ → Bool
+is_known None = false
+is_known (Some n) = true
 
 -- the best's node
-abbrev node_of : BestSolution → ℕ
-node_of NoBest = 0
-node_of (Best i n) = n
+abbrev node_of : Option BestSolution → ℕ
+node_of None = 0
+node_of (Some b) = b.node
 
 is_answer : Reply (Unit {0}) → Bool
 is_answer (answered x) = true
 is_answer (refused n line) = false
 
 -- "a step that always waits"
-always-waits : (left : List ℕ) → Stepping sample finished0 (record { answer = stepping.Status Incomplete; tickets = 0; search = finished0 }) left → ⊥
+always-waits : (left : List ℕ) → Stepping sample finished0 (record { answer = Ok Incomplete; tickets = 0; search = finished0 }) left → ⊥
 unfolding is_waiting
 always-waits left p = true≢false (ap is_waiting (p.answer ∙ answers))
 
 -- "`none` before the trees are grown"
-none-at-once : (s : Search) (left : List ℕ) → Stepping words0 search0 (record { answer = stepping.Status Impossible; tickets = 0; search = s }) left → ⊥
+none-at-once : (s : Search) (left : List ℕ) → Stepping words0 search0 (record { answer = Ok Impossible; tickets = 0; search = s }) left → ⊥
 unfolding is_waiting
 none-at-once s left p = true≢false (sym (ap is_waiting (p.answer ∙ steps)))
 
 -- "an invented ticket count"
-tickets-invented : (s : Search) (left : List ℕ) → Stepping words0 search0 (record { answer = stepping.Status Incomplete; tickets = 1; search = s }) left → ⊥
+tickets-invented : (s : Search) (left : List ℕ) → Stepping words0 search0 (record { answer = Ok Incomplete; tickets = 1; search = s }) left → ⊥
 tickets-invented s left p = absurd (omega (arith, p.tickets ∙ takes-3))
 
 -- "Closing a motif when it is queued: order 0 would cost 9."
-closed-when-queued : (t : ℕ) (left : List ℕ) → Stepping words0 search0 (record { answer = stepping.Status Incomplete; tickets = t; search = with_exhausted (with_find search0 0 2 true) true }) left → ⊥
+closed-when-queued : (t : ℕ) (left : List ℕ) → Stepping words0 search0 (record { answer = Ok Incomplete; tickets = t; search = with_exhausted (with_find search0 0 2 true) true }) left → ⊥
 closed-when-queued t left p = absurd (omega (arith, ap node_of (ap (λ (s : Search). s.best_solution) p.search ∙ finds-7)))
 
 -- the search as the step finished it, with the closed count remembered
@@ -181,16 +179,16 @@ remembered = with_known_len finished0 0 1
 
 -- "Remembering the count after a find by lookup."
 remembered-after-lookup : (t : ℕ) (left : List ℕ)
-    → Stepping sample opened0 (record { answer = stepping.Status Incomplete; tickets = t; search = remembered }) left → ⊥
+    → Stepping sample opened0 (record { answer = Ok Incomplete; tickets = t; search = remembered }) left → ⊥
 unfolding is_known sound_wordsb sample opened0 finished0 step weight solution_cost_of
 remembered-after-lookup t left p = true≢false (ap (λ (s : Search). is_known (entry s 0).last_known_closed_len) p.search)
 
 -- "`shelf full` with slots unused, or every call refused"
-refused-with-slots : (left : List ℕ) → Initializing bare (0 ∷ []) (2 ∷ []) (not_opened_by TreesFull) left → ⊥
+refused-with-slots : (left : List ℕ) → Initializing bare (0 ∷ []) (2 ∷ []) (Err TreesFull) left → ⊥
 unfolding is_answer sound_wordsb bare initialize
 refused-with-slots left p = true≢false (sym (ap is_answer p.answer))
 
 -- an opening that writes nothing
-no-word-written : (r : SearchOpened) → Initializing bare (0 ∷ []) (2 ∷ []) r bare → ⊥
+no-word-written : (r : Result Search Refusal) → Initializing bare (0 ∷ []) (2 ∷ []) r bare → ⊥
 unfolding sound_wordsb bare initialize planted_all
 no-word-written r p = absurd (omega (arith, ap (λ (ws : List ℕ). trees_in ws) p.words))

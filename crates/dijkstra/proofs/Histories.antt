@@ -2,10 +2,10 @@
 -- a search's own calls answer the model's events.
 -- Assumes nothing.
 use mathlib.Core.Path.{◌≡◌, refl, sym, ap, ap₂, ◌∙◌}
+use Rattle.std.specs.Prelude.{Ok}
 use mathlib.Core.Bool.{Bool, true}
 use mathlib.Core.List.{List, ◌∷◌}
 use Prim.Native.Nat.{ℕ}
-use Rattle.model.specs.declared.OpenAnswer.TheVariants.{Opened}
 use Rattle.model.specs.declared.Search.{Search}
 use Rattle.model.specs.Answers.{Reply, answered, Status, initialize_reply}
 use Rattle.model.specs.Graph.{Graph, Accepted}
@@ -84,7 +84,7 @@ pub record InModel (text : List ℕ) (d t : ℕ) (before : List Call) (ss gs : L
 pub in-model : (text : List ℕ) (d t : ℕ) (before : List Call) (ss gs : List ℕ) (acts : List Act) (es : List Event)
     → History text d t before ss gs acts es → InModel text d t before ss gs acts es
 in-model text d t before ss gs acts es h =
-    let o : Opens h.lent text d t h.first = (demand-1 h.lent text d t Opened h.first h.opens).opened refl in
+    let o : Opens h.lent text d t h.first = (demand-1 h.lent text d t (Ok tt) h.first h.opens).opened refl in
     let m = made-all-is h.made (opened-sound h.lent text d t h.first o) in
     let c : Cache = after_all (opened (direction_of d) o.graph t) before in
     let held : read_cache h.mid ≡ c = m.1 ∙ ap (λ (x : Cache). after_all x before) o.cache in
@@ -94,7 +94,7 @@ in-model text d t before ss gs acts es h =
       graph = o.graph;
       read = o.read;
       accepted = o.accepted;
-      reply = sym (p.answer ∙ ap (λ (x : AfterInitialize). x.reply) is) ∙ ap initialize_reply h.accepted;
+      reply = sym (p.answer ∙ ap (λ (x : AfterInitialize). x.reply) is);
       same =
           chain-is h.chain (p.sound ∙ m.0)
           ∙ ap₂ (λ (x : Cache) (s : Search). events x s acts) (p.cache ∙ ap (λ (x : AfterInitialize). x.cache) is) (p.search ∙ ap (λ (x : AfterInitialize). x.search) is);

@@ -2,6 +2,10 @@
 -- search and two retraces among its steps. So `History` speaks of something, and demands 2 and 3 of its answers.
 -- Assumes nothing.
 use mathlib.Core.Path.{◌≡◌, refl, sym, ap, ◌∙◌}
+use Rattle.std.specs.declared.result.Result.{Result}
+use Rattle.model.specs.declared.Refusal.{Refusal}
+use Rattle.model.specs.Search.{as_best}
+use Rattle.std.specs.Prelude.{None, Some, Err, Ok}
 use mathlib.Core.Bool.{true, false}
 use mathlib.Core.List.{List, [], ◌∷◌, ◌++◌}
 use Prim.Native.Nat.{ℕ, ◌+◌, ◌-◌, ◌<◌, ◌≤◌}
@@ -10,17 +14,9 @@ use native.Mathlib.Nat.{lt_of_not-le}
 use native.Mathlib.Omega.{arith}
 use lib.ListN.{length, get_or, replicate, length-append, get_or-append}
 use lib.Seq.{get_or-append-add}
-use Rattle.model.specs.declared.OpenAnswer.TheVariants.{Opened}
-use Rattle.model.specs.declared.InitializeAnswer.TheVariants.{Initialized}
-use Rattle.model.specs.declared.KnownLen.TheVariants.{Never, Len}
 use Rattle.model.specs.declared.Refusal.TheVariants as refusal
-use Rattle.model.specs.declared.RetraceAnswer.TheVariants as retracing
 use Rattle.model.specs.declared.Search.{Search}
-use Rattle.model.specs.declared.SearchOpened.{SearchOpened}
 use Rattle.model.specs.declared.SearchStatus.TheVariants.{Incomplete, Solved}
-use Rattle.model.specs.declared.Solution.TheVariants.{Unsolved, At}
-use Rattle.model.specs.declared.BestSolution.TheVariants.{NoBest, Best}
-use Rattle.model.specs.declared.StepAnswer.TheVariants as stepping
 use Rattle.model.specs.declared.Stepped.{Stepped}
 use Rattle.model.specs.Answers.{answered, refused, waiting, solved}
 use Rattle.model.specs.Worth.{weight, solution_cost_of}
@@ -87,22 +83,22 @@ words3 = cache_words 1 (grown_slot 0 0)
 -- ---- the records: opened; the path to node 3 found; finished
 
 abbrev pub opened_search : Search
-opened_search = record_of (memory 0 Never Unsolved ∷ []) (2 ∷ []) NoBest false
+opened_search = record_of (memory 0 None None ∷ []) (2 ∷ []) None false
 
 abbrev pub found_search : Search
-found_search = record_of (memory 0 (Len 3) (At 3) ∷ []) (2 ∷ []) (Best 0 3) false
+found_search = record_of (memory 0 (Some 3) (Some 3) ∷ []) (2 ∷ []) (as_best 0 3) false
 
 abbrev pub finished_search : Search
-finished_search = record_of (memory 0 (Len 3) (At 3) ∷ []) (2 ∷ []) (Best 0 3) true
+finished_search = record_of (memory 0 (Some 3) (Some 3) ∷ []) (2 ∷ []) (as_best 0 3) true
 
 -- ---- the calls
 
-pub opens : Opening (replicate 55 7) (bytes example_text) 0 1 Opened words0
+pub opens : Opening (replicate 55 7) (bytes example_text) 0 1 (Ok tt) words0
 unfolding open_cache words0
 opens = refl
 
-abbrev pub opened0 : SearchOpened
-opened0 = record { answer = Initialized; search = opened_search }
+abbrev pub opened0 : Result Search Refusal
+opened0 = Ok opened_search
 
 pub initializes : Initializing words0 (0 ∷ []) (2 ∷ []) opened0 words1
 unfolding sound_wordsb words0 words1 initialize planted_all read_cache
@@ -131,7 +127,7 @@ module _ (s : Search) (a b : List ℕ) where
           ∙ get_or-append-add c (7 ∷ 7 ∷ []) (j - 53) 0
 
 abbrev pub waits : Search → ℕ → Stepped
-waits s n = record { answer = stepping.Status Incomplete; tickets = n; search = s }
+waits s n = record { answer = Ok Incomplete; tickets = n; search = s }
 
 pub step1 : Stepping words1 opened_search (waits found_search 3) words2
 unfolding sound_wordsb words1 words2 step read_cache weight solution_cost_of
@@ -156,15 +152,15 @@ step2 = record {
 }
 
 abbrev pub solved7 : Stepped
-solved7 = record { answer = stepping.Status (Solved 7 2); tickets = 0; search = finished_search }
+solved7 = record { answer = Ok (Solved 7 2); tickets = 0; search = finished_search }
 
 pub step3 : Stepping words3 finished_search solved7 words3
 unfolding sound_wordsb words3 step read_cache path weight solution_cost_of
 step3 = record { answer = refl; tickets = refl; search = refl; cache = refl; sound = refl; words = refl }
 
 -- another search, from 0 to 1, shares the tree: no word changes
-abbrev pub opened_between : SearchOpened
-opened_between = record { answer = Initialized; search = record_of (memory 0 Never Unsolved ∷ []) (1 ∷ []) NoBest false }
+abbrev pub opened_between : Result Search Refusal
+opened_between = Ok (record_of (memory 0 None None ∷ []) (1 ∷ []) None false)
 
 pub initializes-between : Initializing words2 (0 ∷ []) (1 ∷ []) opened_between words2
 unfolding sound_wordsb words2 initialize planted_all read_cache weight solution_cost_of
@@ -173,14 +169,14 @@ initializes-between = record { answer = refl; search = refl; words = refl; cache
 abbrev pub slice : List ℕ
 slice = replicate 7 7
 
-not_yet : Retracing words2 found_search slice (retracing.Refused refusal.NotSolved 0) slice
+not_yet : Retracing words2 found_search slice (Err refusal.NotSolved) slice
 unfolding sound_wordsb words2 retrace read_cache weight solution_cost_of
 not_yet = refl
 
 abbrev pub shown : List ℕ
 shown = 0 ∷ 0 ∷ 1 ∷ 1 ∷ 2 ∷ 7 ∷ 7 ∷ []
 
-pub shows : Retracing words3 finished_search slice (retracing.Moves 2) shown
+pub shows : Retracing words3 finished_search slice (Ok 2) shown
 unfolding sound_wordsb words3 retrace read_cache path words weight solution_cost_of
 shows = refl
 
@@ -205,17 +201,16 @@ history = record {
   opens = opens;
   mid = words0;
   made = none_made;
-  search = opened0;
+  search = opened_search;
   next = words1;
   initializes = initializes;
-  accepted = refl;
   chain =
       own-step (waits found_search 3) step1 (
       between (initializing (0 ∷ []) (1 ∷ [])) (made_initialize (0 ∷ []) (1 ∷ []) opened_between initializes-between) (
-      own-retrace slice (retracing.Refused refusal.NotSolved 0) slice not_yet (
+      own-retrace slice (Err refusal.NotSolved) slice not_yet (
       own-step (waits finished_search 1) step2 (
       own-step solved7 step3 (
-      own-retrace slice (retracing.Moves 2) shown shows ends)))));
+      own-retrace slice (Ok 2) shown shows ends)))));
 }
 
 -- the Rust answers the same

@@ -2,13 +2,13 @@
 -- hold, with refusal 7 before it.
 -- Assumes nothing.
 use Rattle.std.specs.Prelude.{◌≡◌, Bool, true, false, List, ℕ}
-use Rattle.model.specs.declared.RetraceAnswer.{RetraceAnswer}
+use Rattle.std.specs.declared.result.Result.{Result}
+use Rattle.model.specs.declared.Refusal.{Refusal}
 use Rattle.model.specs.declared.Search.{Search}
-use Rattle.model.specs.declared.SearchOpened.{SearchOpened}
 use Rattle.model.specs.declared.Stepped.{Stepped}
 use Rattle.model.specs.Answers.{refused, initialize_reply, step_reply}
 use Rattle.model.specs.Search.{empty_search, roots_of}
-use Rattle.model.specs.Calls.{Cache, AfterInitialize, initialize, AfterStep, step, AfterRetrace, retrace}
+use Rattle.model.specs.Calls.{Cache, AfterInitialize, initialize, AfterStep, step, AfterRetrace, retrace, opened_search}
 use Rattle.layout.specs.Layout.{direction_in}
 use Rattle.layout.specs.Read.{direction_of, read_cache}
 use Rattle.layout.specs.Sound.{sound_wordsb}
@@ -28,9 +28,9 @@ initialize_words ws ss gs = initialize_if (sound_wordsb ws) (read_cache ws) ss g
 
 -- the promise of `initialize`: answer, record and every word are given by definitions; the cache that the words left hold is the model's,
 -- and they are sound if the words lent were
-pub record Initializing (ws ss gs : List ℕ) (r : SearchOpened) (left : List ℕ) : Type 0 where
-  pub answer : initialize_reply r.answer ≡ (initialize_words ws ss gs).reply
-  pub search : r.search ≡ (initialize_words ws ss gs).search
+pub record Initializing (ws ss gs : List ℕ) (r : Result Search Refusal) (left : List ℕ) : Type 0 where
+  pub answer : initialize_reply r ≡ (initialize_words ws ss gs).reply
+  pub search : opened_search r ≡ (initialize_words ws ss gs).search
   pub words : left ≡ initialized_words (initialize_words ws ss gs).reply ws (roots_of (direction_of (direction_in ws)) ss gs)
   pub cache : read_cache left ≡ (initialize_words ws ss gs).cache
   pub sound : sound_wordsb left ≡ sound_wordsb ws
@@ -64,5 +64,5 @@ abbrev pub retrace_words : List ℕ → Search → List ℕ → AfterRetrace
 retrace_words ws s p = retrace_if (sound_wordsb ws) (read_cache ws) s p
 
 -- the promise of `retrace`, whose words are lent for reading: answer and path's slice are the definition's
-abbrev pub Retracing : List ℕ → Search → List ℕ → RetraceAnswer → List ℕ → Type 0
+abbrev pub Retracing : List ℕ → Search → List ℕ → Result ℕ Refusal → List ℕ → Type 0
 Retracing ws s p r q = after_retrace r q ≡ retrace_words ws s p

@@ -2,19 +2,14 @@
 -- the same words, each known by nothing but the promise that its `ensures` states: `Opening` (cache/specs/Open.antt), `Initializing`,
 -- `Stepping` and `Retracing` (Calls.antt). What is owed of a search (`Owed`), and what the Rust answers (`events_from`), are the model's.
 -- Assumes nothing.
-use Rattle.std.specs.Prelude.{◌≡◌, List, [], ◌∷◌, ℕ, ◌+◌, ◌<◌, ◌≤◌, length, get_or}
-use Rattle.model.specs.declared.OpenAnswer.TheVariants as opening
-use Rattle.model.specs.declared.InitializeAnswer.TheVariants as initializing
-use Rattle.model.specs.declared.StepAnswer.TheVariants as stepping
-use Rattle.model.specs.declared.RetraceAnswer.{RetraceAnswer}
-use Rattle.model.specs.declared.RetraceAnswer.TheVariants as retracing
+use Rattle.std.specs.Prelude.{◌≡◌, List, [], ◌∷◌, ℕ, ◌+◌, ◌<◌, ◌≤◌, length, get_or, Err, Ok}
+use Rattle.std.specs.declared.result.Result.{Result}
 use Rattle.model.specs.declared.Refusal.{Refusal}
 use Rattle.model.specs.declared.Search.{Search}
-use Rattle.model.specs.declared.SearchOpened.{SearchOpened}
 use Rattle.model.specs.declared.Stepped.{Stepped}
 use Rattle.model.specs.Answers.{answered, step_reply}
 use Rattle.model.specs.Graph.{Graph}
-use Rattle.model.specs.Search.{entry, empty_search}
+use Rattle.model.specs.Search.{entry}
 use Rattle.model.specs.Calls.{opened}
 use Rattle.model.specs.Demands.{Call, initializing as initializingCall, stepping as steppingCall, retracing as retracingCall, reading, both, Act, own_step, own_retrace, other, Event, stepped, retraced, Owed}
 use Rattle.model.specs.Reference.{after_all, events_from}
@@ -24,25 +19,26 @@ use Rattle.layout.specs.Read.{direction_of, read_cache}
 use Rattle.cache.specs.Open.{Opening}
 use Rattle.dijkstra.specs.Calls.{Initializing, Stepping, Retracing, after_retrace}
 
--- ---- Demand 1: "hold, after any refused call, what they held before it". That every call returns an answer is the language's.
+-- ---- Demand 1: "hold, after any refused call, what they held before it". That every call returns an answer is the
+-- language's, and that a refused opening hands back no record is its type's.
 
 abbrev pub Demand1 : Type 0
 Demand1 =
-    ((ws ss gs : List ℕ) (r : SearchOpened) (left : List ℕ) → Initializing ws ss gs r left
-    → (f : Refusal) (line : ℕ) → r.answer ≡ initializing.Refused f line → (left ≡ ws) × ((r.search ≡ empty_search) × (line ≡ 0)))
+    ((ws ss gs : List ℕ) (r : Result Search Refusal) (left : List ℕ) → Initializing ws ss gs r left
+    → (f : Refusal) → r ≡ Err f → left ≡ ws)
     × ((ws : List ℕ) (s : Search) (r : Stepped) (left : List ℕ) → Stepping ws s r left
-    → (f : Refusal) (line : ℕ) → r.answer ≡ stepping.Refused f line → (left ≡ ws) × ((r.search ≡ s) × ((r.tickets ≡ 0) × (line ≡ 0))))
-    × ((ws : List ℕ) (s : Search) (p : List ℕ) (r : RetraceAnswer) (q : List ℕ) → Retracing ws s p r q
-    → (f : Refusal) (line : ℕ) → r ≡ retracing.Refused f line → (q ≡ p) × (line ≡ 0))
+    → (f : Refusal) → r.answer ≡ Err f → (left ≡ ws) × ((r.search ≡ s) × (r.tickets ≡ 0)))
+    × ((ws : List ℕ) (s : Search) (p : List ℕ) (r : Result ℕ Refusal) (q : List ℕ) → Retracing ws s p r q
+    → (f : Refusal) → r ≡ Err f → q ≡ p)
 
 -- ---- lists of calls on the same words: each gets the words as the last one left them
 
 -- one call on the words ws, which leaves the words left: accepted or refused, with any lists, any record and any slice. One that only reads
 -- leaves every word; one that is made of two is known by theirs
 pub data Made : List ℕ → Call → List ℕ → Type 0 where
-  made_initialize : {ws left : List ℕ} (ss gs : List ℕ) (r : SearchOpened) → Initializing ws ss gs r left → Made ws (initializingCall ss gs) left
+  made_initialize : {ws left : List ℕ} (ss gs : List ℕ) (r : Result Search Refusal) → Initializing ws ss gs r left → Made ws (initializingCall ss gs) left
   made_step : {ws left : List ℕ} (s : Search) (r : Stepped) → Stepping ws s r left → Made ws (steppingCall s) left
-  made_retrace : {ws : List ℕ} (s : Search) (p : List ℕ) (r : RetraceAnswer) (q : List ℕ) → Retracing ws s p r q → Made ws (retracingCall s p) ws
+  made_retrace : {ws : List ℕ} (s : Search) (p : List ℕ) (r : Result ℕ Refusal) (q : List ℕ) → Retracing ws s p r q → Made ws (retracingCall s p) ws
   made_reading : {ws : List ℕ} → Made ws reading ws
   made_both : {ws mid left : List ℕ} {x y : Call} → Made ws x mid → Made mid y left → Made ws (both x y) left
 
@@ -57,7 +53,7 @@ pub data Chain : List ℕ → Search → List Act → List Event → Type 0 wher
   ends : {ws : List ℕ} {s : Search} → Chain ws s [] []
   own-step : {ws left : List ℕ} {s : Search} {acts : List Act} {es : List Event} (r : Stepped) → Stepping ws s r left
       → Chain left r.search acts es → Chain ws s (own_step ∷ acts) (stepped (step_reply r.answer) ∷ es)
-  own-retrace : {ws : List ℕ} {s : Search} {acts : List Act} {es : List Event} (p : List ℕ) (r : RetraceAnswer) (q : List ℕ)
+  own-retrace : {ws : List ℕ} {s : Search} {acts : List Act} {es : List Event} (p : List ℕ) (r : Result ℕ Refusal) (q : List ℕ)
       → Retracing ws s p r q → Chain ws s acts es → Chain ws s (own_retrace p ∷ acts) (retraced p (after_retrace r q) ∷ es)
   between : {ws left : List ℕ} {s : Search} {acts : List Act} {es : List Event} (x : Call) → Made ws x left
       → Chain left s acts es → Chain ws s (other x ∷ acts) es
@@ -67,14 +63,13 @@ pub data Chain : List ℕ → Search → List Act → List Event → Type 0 wher
 pub record History (text : List ℕ) (d t : ℕ) (before : List Call) (ss gs : List ℕ) (acts : List Act) (es : List Event) : Type 0 where
   pub lent : List ℕ
   pub first : List ℕ
-  pub opens : Opening lent text d t opening.Opened first
+  pub opens : Opening lent text d t (Ok tt) first
   pub mid : List ℕ
   pub made : MadeAll first before mid
-  pub search : SearchOpened
+  pub search : Search
   pub next : List ℕ
-  pub initializes : Initializing mid ss gs search next
-  pub accepted : search.answer ≡ initializing.Initialized
-  pub chain : Chain next search.search acts es
+  pub initializes : Initializing mid ss gs (Ok search) next
+  pub chain : Chain next search acts es
 
 -- ---- Demand 2: the Rust's code, made the same calls on the graph of the same text, answers the same
 

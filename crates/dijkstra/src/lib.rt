@@ -6,14 +6,14 @@
 
 ghost use Rattle.dijkstra.specs.Calls.{Initializing, Stepping, Retracing};
 
-use model::{Refusal, RetraceAnswer, Search, SearchOpened, Stepped};
+use model::{Refusal, Search, Stepped};
 
 // Opens a search from the starts to the goals. On a backward cache its trees root at the goals and the starts are looked for.
-pub fn initialize(words: &mut [u32], starts: &[u32], goals: &[u32]) -> SearchOpened
+pub fn initialize(words: &mut [u32], starts: &[u32], goals: &[u32]) -> Result<Search, Refusal>
     ensures { Initializing words.old starts.now goals.now result words.new }
 {
     if !sound::is_sound(words) {
-        return opening::not_opened(Refusal::Unsound);
+        return Err(Refusal::Unsound);
     }
     opening::initialize(words, starts, goals)
 }
@@ -29,11 +29,11 @@ pub fn step(words: &mut [u32], search: Search) -> Stepped
 }
 
 // Writes the path of a search that finished as solved: first vertex, then edge and vertex for each move, in the graph's own direction.
-pub fn retrace(words: &[u32], search: Search, path: &mut [u32]) -> RetraceAnswer
+pub fn retrace(words: &[u32], search: Search, path: &mut [u32]) -> Result<usize, Refusal>
     ensures { Retracing words.now search path.old result path.new }
 {
     if !sound::is_sound(words) {
-        return unchecked::shown::not_retraced(Refusal::Unsound);
+        return Err(Refusal::Unsound);
     }
     unchecked::retrace(words, search, path)
 }

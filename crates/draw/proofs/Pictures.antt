@@ -1,20 +1,21 @@
 -- The drawing or the refusal that is put, and the path that an order finds.
 -- Assumes nothing.
-use mathlib.Core.Path.{◌≡◌, refl, sym, ap, ap₂, ◌∙◌, subst}
-use mathlib.Core.Bool.{Bool, true, false, not}
+use mathlib.Core.Path.{◌≡◌, refl, sym, ap, ap₂, ◌∙◌}
+use Rattle.model.specs.declared.SearchStatus.{SearchStatus}
+use Rattle.std.specs.declared.result.Result.{Result}
+use Rattle.std.specs.declared.option.Option.{Option}
+use Rattle.std.specs.Prelude.{None, Some, Err, Ok, ok_or}
+use mathlib.Core.Bool.{Bool, true, false}
 use mathlib.Core.List.{List, [], ◌++◌}
-use mathlib.Core.Option.{none}
-use Prim.Native.Nat.{ℕ, zero, suc, ◌+◌, ◌-◌, ◌*◌, ◌<◌, ◌≤◌}
+use Prim.Native.Nat.{ℕ, zero, suc, ◌+◌, ◌*◌, ◌<◌, ◌≤◌}
 use native.Mathlib.Omega.{arith}
-use borrow.Author.Tests.{lt-ltb, le-ltb, ltb-true, leb-true, not-true, not-false}
+use borrow.Author.Tests.{lt-ltb, le-ltb, ltb-true, leb-true}
 use lib.Dec.{ltb, leb}
 use lib.ListN.{length, take, drop, replicate, length-replicate}
 use Rattle.model.specs.declared.Refusal.{Refusal}
-use Rattle.model.specs.declared.OpenAnswer.{OpenAnswer}
-use Rattle.model.specs.declared.OpenAnswer.TheVariants as opening
+use Rattle.model.specs.declared.Refusal.TheVariants.{Malformed}
+use Rattle.model.specs.declared.Refused.{Refused}
 use Rattle.model.specs.declared.Planned.{Planned}
-use Rattle.model.specs.declared.StepAnswer.{StepAnswer}
-use Rattle.model.specs.declared.StepAnswer.TheVariants as stepping
 use Rattle.model.specs.Answers.{number, Reply, answered, refused, Status, waiting, solved, no_path, step_reply}
 use Rattle.model.specs.Graph.{Graph, Accepted, forward, backward, vertex_count, edge_count}
 use Rattle.model.specs.Calls.{Cache, first_fault, opened}
@@ -29,18 +30,17 @@ use Rattle.cache.proofs.Demand1.{demand-1}
 use Rattle.sound.proofs.Opened.{opened-sound}
 use Rattle.planner.specs.Plan.{plan_if, plan_words, Planning}
 use Rattle.planner.proofs.Ended.{has-path}
-use Rattle.order_lines.specs.declared.orders.Numbers.{Numbers}
-use Rattle.order_lines.specs.declared.orders.Form.TheVariants.{Forward, Backward, Illegal}
+use Rattle.order_lines.specs.declared.orders.Form.{Form}
+use Rattle.order_lines.specs.declared.orders.Form.TheVariants.{Forward, Backward}
 use Rattle.order_lines.specs.declared.orders.Order.{Order}
 use Rattle.order_lines.specs.Orders.{order_of}
 use Rattle.order_lines.specs.Answers.{refused_line}
-use Rattle.order_run.specs.Run.{listed}
 use Rattle.put_text.specs.Puts.{Puts}
-use Rattle.drawing.specs.declared.DrawAnswer.TheVariants.{Drawn, Refused, ShortDrawing}
+use Rattle.drawing.specs.declared.DrawError.TheVariants.{Chart, ShortDrawing}
 use Rattle.drawing.specs.Drawing.{drawing}
 use Rattle.drawing.specs.Draw.{drawing_room, AfterDraw, drawn, refused_by, short, draw_if, draw_read, draw_text, Drawing}
 use Rattle.drawing.proofs.Drawn.{opening-refused}
-use Rattle.draw.specs.Picture.{path_by, path_in, order_path, drawn_text, with_path, picture_by, picture_text, found_by, Few, FoundIs}
+use Rattle.draw.specs.Picture.{path_by, path_in, ordered_on, ordered_by, order_path, drawn_text, with_path, picture_by, picture_text, found_by, Few, FoundIs}
 
 -- ---- the drawing, by the promise of `draw`
 
@@ -54,7 +54,7 @@ refused-short : {n line : ℕ} → refused_by n line ≡ short → ⊥
 refused-short e = let z : ◌≡◌ {A = ℕ} 0 1 = cc in omega arith
 
 module _ (text path out left : List ℕ) where
-  pub drawn-put : (n : ℕ) → Drawing text path out (Drawn n) left → Puts out 0 (drawn_text (read_graph text) path) n left
+  pub drawn-put : (n : ℕ) → Drawing text path out (Ok n) left → Puts out 0 (drawn_text (read_graph text) path) n left
   unfolding draw_text
   drawn-put n p = go (read_graph text) p
     where
@@ -73,22 +73,22 @@ module _ (text path out left : List ℕ) where
       go (refused k l) e = absurd (drawn-refused (ap (λ (x : AfterDraw). x.reply) e))
       go (answered g) e = by g (ltb (length out) (drawing_room (vertex_count g) (edge_count g))) e
 
-  pub refused-drawn : (f : Refusal) (line : ℕ) → Drawing text path out (Refused f line) left → (left ≡ out) × (drawn_text (read_graph text) path ≡ refused_line (number f))
+  pub refused-drawn : (f : Refused) → Drawing text path out (Err (Chart f)) left → (left ≡ out) × (drawn_text (read_graph text) path ≡ refused_line (number f.refusal))
   unfolding draw_text
-  refused-drawn f line p = go (read_graph text) p
+  refused-drawn f p = go (read_graph text) p
     where
-      by : (g : Graph) (b : Bool) → record { reply = refused_by (number f) line; bytes = left } ≡ draw_if b g path out → ⊥
+      by : (g : Graph) (b : Bool) → record { reply = refused_by (number f.refusal) f.line; bytes = left } ≡ draw_if b g path out → ⊥
       by g true e = refused-short (ap (λ (x : AfterDraw). x.reply) e)
       by g false e = drawn-refused (sym (ap (λ (x : AfterDraw). x.reply) e))
 
-      go : (x : Reply Graph) → record { reply = refused_by (number f) line; bytes = left } ≡ draw_read x path out → (left ≡ out) × (drawn_text x path ≡ refused_line (number f))
+      go : (x : Reply Graph) → record { reply = refused_by (number f.refusal) f.line; bytes = left } ≡ draw_read x path out → (left ≡ out) × (drawn_text x path ≡ refused_line (number f.refusal))
       go (refused k l) e =
-          let reply : refused_by (number f) line ≡ refused_by k l = ap (λ (x : AfterDraw). x.reply) e in
-          let same : k ≡ number f = cc in
+          let reply : refused_by (number f.refusal) f.line ≡ refused_by k l = ap (λ (x : AfterDraw). x.reply) e in
+          let same : k ≡ number f.refusal = cc in
           (ap (λ (x : AfterDraw). x.bytes) e, ap refused_line same)
       go (answered g) e = absurd (by g (ltb (length out) (drawing_room (vertex_count g) (edge_count g))) e)
 
-  pub never-short : Drawing text path out ShortDrawing left → length out ≡ 196864 → ⊥
+  pub never-short : Drawing text path out (Err ShortDrawing) left → length out ≡ 196864 → ⊥
   unfolding draw_text read_graph
   never-short p size = go (judge_text text) refl p
     where
@@ -108,21 +108,12 @@ few-by (answered (solved k m)) has n e f = λ t. omega (arith, leb-true (1 + 2 *
 few-by (answered no_path) has n e f = λ t. omega arith
 few-by (refused k line) has n e f = tt
 
-pub found-is : (a : StepAnswer) (has : Bool) (q : List ℕ) → length q ≡ 2047 → Few (step_reply a) has → FoundIs (found_by a has) q (path_by (step_reply a) has q)
-found-is (stepping.Status s) true q e f = (omega (arith, f refl), refl)
-found-is (stepping.Status s) false q e f = (omega arith, refl)
-found-is (stepping.Refused n line) has q e f = refl
+pub found-is : (a : Result SearchStatus Refusal) (has : Bool) (q : List ℕ) → length q ≡ 2047 → Few (step_reply a) has → FoundIs (found_by a has) q (path_by (step_reply a) has q)
+found-is (Ok s) true q e f = (omega (arith, f refl), refl)
+found-is (Ok s) false q e f = (omega arith, refl)
+found-is (Err n) has q e f = refl
 
--- the lists, as the code lends them
-pub plan-lent : (ss gs : Numbers) {ws p left q : List ℕ} {r : Planned} → Planning ws (take (ss.count - 0) ss.numbers) (take (gs.count - 0) gs.numbers) p r left q
-    → Planning ws (listed ss) (listed gs) p r left q
-plan-lent ss gs {ws} {p} {left} {q} {r} h =
-    let starts : ss.count - 0 ≡ ss.count = omega arith in
-    let goals : gs.count - 0 ≡ gs.count = omega arith in
-    subst (λ (n : ℕ). Planning ws (take n ss.numbers) (listed gs) p r left q) starts
-    (subst (λ (n : ℕ). Planning ws (take (ss.count - 0) ss.numbers) (take n gs.numbers) p r left q) goals h)
-
-fine : (d : ℕ) → d ≤ 1 → first_fault (measure_faults d 16) ≡ none
+fine : (d : ℕ) → d ≤ 1 → first_fault (measure_faults d 16) ≡ None
 fine zero h = refl
 fine (suc zero) h = refl
 fine (suc (suc d)) h = absurd (omega arith)
@@ -132,21 +123,19 @@ module _ (text : List ℕ) (d : ℕ) (within : d ≤ 1) (left : List ℕ) where
   abbrev lent : List ℕ
   lent = replicate 190598 0
 
-  pub find-refused : (ss gs : List ℕ) {r : OpenAnswer} (f : Refusal) (line : ℕ) → Opening lent text d 16 r left → r ≡ opening.Refused f line
-      → refused (number f) line ≡ path_in (direction_of d) (read_graph text) ss gs
-  find-refused ss gs f line p e =
+  pub find-refused : (ss gs : List ℕ) (f : Refused) → Opening lent text d 16 (Err f) left → refused (number f.refusal) f.line ≡ path_in (direction_of d) (read_graph text) ss gs
+  find-refused ss gs f p =
       ap (λ (x : Reply Graph). path_in (direction_of d) x ss gs)
-      (opening-refused lent text left d 16 f line (fine d within) (λ g ok. omega (arith, length-replicate {A = ℕ} 190598 0, ok.vertices, ok.edges)) p e)
+      (opening-refused lent text left d 16 f (fine d within) (λ g ok. omega (arith, length-replicate {A = ℕ} 190598 0, ok.vertices, ok.edges)) p)
 
   module _ (ss gs p : List ℕ) (zeros : p ≡ replicate 2047 0) (r : Planned) (end q : List ℕ) (planned : Planning left ss gs p r end q) where
     pub find-few : Few (step_reply r.answer) r.has_path
     find-few =
         few-by (step_reply r.answer) r.has_path (length p) (ap length zeros ∙ length-replicate {A = ℕ} 2047 0) (has-path left ss gs p r end q planned).0
 
-    pub find-opened : {o : OpenAnswer} → Opening lent text d 16 o left → o ≡ opening.Opened
-        → path_by (step_reply r.answer) r.has_path q ≡ path_in (direction_of d) (read_graph text) ss gs
-    find-opened h e =
-        let o : Opens lent text d 16 left = (demand-1 lent text d 16 _ left h).opened e in
+    pub find-opened : Opening lent text d 16 (Ok tt) left → path_by (step_reply r.answer) r.has_path q ≡ path_in (direction_of d) (read_graph text) ss gs
+    find-opened h =
+        let o : Opens lent text d 16 left = (demand-1 lent text d 16 _ left h).opened refl in
         let same : plan_words left ss gs p ≡ plan (opened (direction_of d) o.graph 16) ss gs (replicate 2047 0) =
         ap (λ (b : Bool). plan_if b (read_cache left) ss gs p) (opened-sound lent text d 16 left o) ∙ ap₂ (λ (c : Cache) (x : List ℕ). plan c ss gs x) o.cache zeros in
         (λ i. path_by (planned.answer i) (planned.has-path i) (planned.path i)) ∙ ap (λ (x : AfterPlan). path_by x.reply x.has_path x.path) same
@@ -154,45 +143,49 @@ module _ (text : List ℕ) (d : ℕ) (within : d ≤ 1) (left : List ℕ) where
 
 -- ---- an order, by its form
 
-module _ (chart order : List ℕ) (o : Order) (read : o ≡ order_of order) where
-  pub ordered-forward : o.form ≡ Forward → path_in forward (read_graph chart) (listed o.starts) (listed o.goals) ≡ order_path chart order
-  unfolding order_path
-  ordered-forward e = sym (rw (← read, e) refl)
+module _ (chart order : List ℕ) where
+  module _ (o : Order) (read : Some o ≡ order_of order) where
+    by-form : {f : Form} → o.form ≡ f → ordered_on f o (read_graph chart) ≡ order_path chart order
+    unfolding order_path
+    by-form e = ap (λ (f : Form). ordered_on f o (read_graph chart)) (sym e) ∙ ap (λ (x : Option Order). ordered_by x (read_graph chart)) read
 
-  pub ordered-backward : o.form ≡ Backward → path_in backward (read_graph chart) (listed o.starts) (listed o.goals) ≡ order_path chart order
-  unfolding order_path
-  ordered-backward e = sym (rw (← read, e) refl)
+    -- ss and gs: its lists, as they are lent
+    module _ {ss gs : List ℕ} (starts : ss ≡ o.starts.items) (goals : gs ≡ o.goals.items) where
+      pub ordered-forward : o.form ≡ Forward → path_in forward (read_graph chart) ss gs ≡ order_path chart order
+      ordered-forward e = rw (starts, goals) (by-form e)
 
-  pub ordered-illegal : o.form ≡ Illegal → refused 1 0 ≡ order_path chart order
+      pub ordered-backward : o.form ≡ Backward → path_in backward (read_graph chart) ss gs ≡ order_path chart order
+      ordered-backward e = rw (starts, goals) (by-form e)
+
+  -- a line of no legal form is malformed
+  pub ordered-none : (o : Option Order) (f : Refusal) → o ≡ order_of order → ◌≡◌ {A = Result Order Refusal} (Err f) (ok_or o Malformed) → refused (number f) 0 ≡ order_path chart order
   unfolding order_path
-  ordered-illegal e = sym (rw (← read, e) refl)
+  ordered-none None f read e =
+      let malformed : f ≡ Malformed = cc in
+      ap (λ (x : Refusal). refused (number x) 0) malformed ∙ ap (λ (x : Option Order). ordered_by x (read_graph chart)) read
+  ordered-none (Some o) f read e = cc
 
 -- ---- the whole: for an overlong file, without an order, with one
 
-module _ (chart order : List ℕ) (has : Bool) where
-  pub picture-overlong : 65536 < length chart → picture_text chart has order ≡ refused_line 4
+module _ (chart : List ℕ) where
+  pub picture-overlong : (o : Option (List ℕ)) → 65536 < length chart → picture_text chart o ≡ refused_line 4
   unfolding picture_text
-  picture-overlong h = ap (λ (b : Bool). picture_by b has chart order) (lt-ltb 65536 (length chart) h)
+  picture-overlong o h = ap (λ (b : Bool). picture_by b chart o) (lt-ltb 65536 (length chart) h)
 
   module _ (h : length chart ≤ 65536) where
-    pub picture-plain : not has ≡ true → picture_text chart has order ≡ drawn_text (read_graph chart) []
+    pub picture-plain : picture_text chart None ≡ drawn_text (read_graph chart) []
     unfolding picture_text
-    picture-plain e =
-        ap (λ (b : Bool). picture_by b has chart order) (le-ltb 65536 (length chart) h) ∙ ap (λ (b : Bool). picture_by false b chart order) (not-true has e)
+    picture-plain = ap (λ (b : Bool). picture_by b chart None) (le-ltb 65536 (length chart) h)
 
-    picture-ordered : not has ≡ false → picture_text chart has order ≡ with_path (order_path chart order) chart
-    unfolding picture_text
-    picture-ordered e =
-        ap (λ (b : Bool). picture_by b has chart order) (le-ltb 65536 (length chart) h) ∙ ap (λ (b : Bool). picture_by false b chart order) (not-false has e)
+    module _ (order : List ℕ) where
+      picture-ordered : picture_text chart (Some order) ≡ with_path (order_path chart order) chart
+      unfolding picture_text
+      picture-ordered = ap (λ (b : Bool). picture_by b chart (Some order)) (le-ltb 65536 (length chart) h)
 
-    -- the order is refused, by f
-    pub picture-refused : not has ≡ false → (f : Refusal) (line : ℕ) {n : ℕ} → refused (number f) line ≡ order_path chart order → n ≡ number f
-        → picture_text chart has order ≡ refused_line n
-    picture-refused e f line r same = picture-ordered e ∙ sym (ap (λ (x : Reply (List ℕ)). with_path x chart) r) ∙ ap refused_line (sym same)
+      -- the order is refused, by f
+      pub picture-refused : (f : Refused) {n : ℕ} → refused (number f.refusal) f.line ≡ order_path chart order → n ≡ number f.refusal → picture_text chart (Some order) ≡ refused_line n
+      picture-refused f r same = picture-ordered ∙ sym (ap (λ (x : Reply (List ℕ)). with_path x chart) r) ∙ ap refused_line (sym same)
 
-    -- its path was found: the first n words of q
-    pub picture-found : not has ≡ false → (n : ℕ) (q : List ℕ) → answered (take n q) ≡ order_path chart order
-        → picture_text chart has order ≡ drawn_text (read_graph chart) (take (n - 0) q)
-    picture-found e n q r =
-        let all : n ≡ n - 0 = omega arith in
-        picture-ordered e ∙ sym (ap (λ (x : Reply (List ℕ)). with_path x chart) r) ∙ ap (λ (k : ℕ). drawn_text (read_graph chart) (take k q)) all
+      -- its path was found: the first n words of q
+      pub picture-found : (n : ℕ) (q : List ℕ) → answered (take n q) ≡ order_path chart order → picture_text chart (Some order) ≡ drawn_text (read_graph chart) (take n q)
+      picture-found n q r = picture-ordered ∙ sym (ap (λ (x : Reply (List ℕ)). with_path x chart) r)

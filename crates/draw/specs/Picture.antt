@@ -1,8 +1,11 @@
 -- What the program prints: a chart's drawing, or why there is none.
 -- Assumes nothing.
-use Rattle.std.specs.Prelude.{◌≡◌, Bool, true, false, cond, List, [], ℕ, ◌+◌, ◌*◌, ◌≤◌, length, take, replicate}
-use Rattle.model.specs.declared.StepAnswer.{StepAnswer}
-use Rattle.model.specs.declared.StepAnswer.TheVariants as stepping
+use Rattle.std.specs.Prelude.{◌≡◌, Bool, true, false, cond, List, [], ℕ, ◌+◌, ◌*◌, ◌≤◌, length, take, replicate, None, Some, Err, Ok}
+use Rattle.model.specs.declared.SearchStatus.{SearchStatus}
+use Rattle.std.specs.declared.option.Option.{Option}
+use Rattle.std.specs.declared.result.Result.{Result}
+use Rattle.model.specs.declared.Refusal.{Refusal}
+use Rattle.model.specs.declared.Refused.{Refused}
 use Rattle.model.specs.Answers.{number, Reply, answered, refused, Status, waiting, solved, no_path, status}
 use Rattle.model.specs.Graph.{Graph, Direction, forward, backward}
 use Rattle.model.specs.Calls.{opened, initialize, retrace}
@@ -10,16 +13,13 @@ use Rattle.model.specs.Solve.{solve}
 use Rattle.model.specs.Plan.{plan}
 use Rattle.text.specs.Read.{read_graph}
 use Rattle.order_lines.specs.declared.orders.Form.{Form}
-use Rattle.order_lines.specs.declared.orders.Form.TheVariants.{Forward, Backward, Illegal}
+use Rattle.order_lines.specs.declared.orders.Form.TheVariants.{Forward, Backward}
 use Rattle.order_lines.specs.declared.orders.Order.{Order}
 use Rattle.order_lines.specs.Orders.{order_of}
 use Rattle.order_lines.specs.Answers.{refused_line}
 use Rattle.order_run.specs.Lent.{lent_slots}
-use Rattle.order_run.specs.Run.{listed}
 use Rattle.order_sheet.specs.Whole.{is_overlong}
 use Rattle.drawing.specs.Drawing.{drawing}
-use Rattle.draw.specs.declared.picture.Found.{Found}
-use Rattle.draw.specs.declared.picture.Found.TheVariants.{Words, Refused}
 
 -- ---- the path of an order
 
@@ -39,15 +39,18 @@ abbrev pub path_in : Direction → Reply Graph → List ℕ → List ℕ → Rep
 path_in dir (refused n line) ss gs = refused n line
 path_in dir (answered g) ss gs = let r = plan (opened dir g lent_slots) ss gs (replicate 2047 0) in path_by r.reply r.has_path r.path
 
+abbrev pub ordered_on : Form → Order → Reply Graph → Reply (List ℕ)
+ordered_on Forward o chart = path_in forward chart o.starts.items o.goals.items
+ordered_on Backward o chart = path_in backward chart o.starts.items o.goals.items
+
 -- "An order without this form is refused 1, before any opening."
-abbrev pub ordered_by : Form → Order → Reply Graph → Reply (List ℕ)
-ordered_by Forward o chart = path_in forward chart (listed o.starts) (listed o.goals)
-ordered_by Backward o chart = path_in backward chart (listed o.starts) (listed o.goals)
-ordered_by Illegal o chart = refused 1 0
+abbrev pub ordered_by : Option Order → Reply Graph → Reply (List ℕ)
+ordered_by None chart = refused 1 0
+ordered_by (Some o) chart = ordered_on o.form o chart
 
 unfoldable pub order_path : List ℕ → List ℕ → Reply (List ℕ)
 unfolding read_graph order_of opened initialize solve retrace
-order_path chart order = ordered_by (order_of order).form (order_of order) (read_graph chart)
+order_path chart order = ordered_by (order_of order) (read_graph chart)
 
 -- ---- what is printed
 
@@ -62,25 +65,25 @@ with_path (refused n line) chart = refused_line n
 with_path (answered path) chart = drawn_text (read_graph chart) path
 
 -- is the file overlong? is there an order?
-abbrev pub picture_by : Bool → Bool → List ℕ → List ℕ → List ℕ
-picture_by true has chart order = refused_line 4
-picture_by false false chart order = drawn_text (read_graph chart) []
-picture_by false true chart order = with_path (order_path chart order) chart
+abbrev pub picture_by : Bool → List ℕ → Option (List ℕ) → List ℕ
+picture_by true chart order = refused_line 4
+picture_by false chart None = drawn_text (read_graph chart) []
+picture_by false chart (Some order) = with_path (order_path chart order) chart
 
-unfoldable pub picture_text : List ℕ → Bool → List ℕ → List ℕ
+unfoldable pub picture_text : List ℕ → Option (List ℕ) → List ℕ
 unfolding read_graph order_path drawing refused_line
-picture_text chart has order = picture_by (is_overlong chart) has chart order
+picture_text chart order = picture_by (is_overlong chart) chart order
 
 -- ---- what the functions beneath promise each other
 
 -- the path stands in front of q; or the refusal
-abbrev pub FoundIs : Found → List ℕ → Reply (List ℕ) → Type 0
-FoundIs (Words n) q x = (n ≤ length q) × (answered (take n q) ≡ x)
-FoundIs (Refused f line) q x = refused (number f) line ≡ x
+abbrev pub FoundIs : Result ℕ Refused → List ℕ → Reply (List ℕ) → Type 0
+FoundIs (Ok n) q x = (n ≤ length q) × (answered (take n q) ≡ x)
+FoundIs (Err f) q x = refused (number f.refusal) f.line ≡ x
 
-abbrev pub found_by : StepAnswer → Bool → Found
-found_by (stepping.Status s) has = Words (cond has (words_in (status s)) 0)
-found_by (stepping.Refused f line) has = Refused f line
+abbrev pub found_by : Result SearchStatus Refusal → Bool → Result ℕ Refused
+found_by (Ok s) has = Ok (cond has (words_in (status s)) 0)
+found_by (Err f) has = Err (record { refusal = f; line = 0 })
 
 -- a path that was written has at most 2,047 words
 abbrev pub Few : Reply Status → Bool → Type 0

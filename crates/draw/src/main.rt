@@ -5,7 +5,7 @@
 mod picture;
 
 use order_sheet::MAX_BYTES;
-use order_sheet::files::{Bytes, read_file};
+use order_sheet::files::read_file;
 use picture::{MAX_PICTURE, put_picture};
 use std::env::{Env, FillError};
 
@@ -17,16 +17,17 @@ const ARGUMENT: usize = 131072;
 
 fn main(rt: HostRuntime) {
     let mut chart = [0u8; SPACE];
-    let Bytes::Count(n) = read_file(&rt, b"chart.txt", &mut chart) else {
+    let Some(n) = read_file(&rt, b"chart.txt", &mut chart) else {
         return;
     };
-    let mut order = [0u8; ARGUMENT];
-    let (has_order, m) = match rt.arg(1, &mut order) {
-        Ok(m) => (true, m),
-        Err(FillError::TooLong) => (true, 0),
-        Err(FillError::NotPresent) => (false, 0),
+    let mut argument = [0u8; ARGUMENT];
+    // One that is too long is no order either: an empty one stands for it.
+    let order = match rt.arg(1, &mut argument) {
+        Ok(m) => Some(&argument[..m]),
+        Err(FillError::TooLong) => Some(&argument[..0]),
+        Err(FillError::NotPresent) => None,
     };
     let mut out = [0u8; MAX_PICTURE];
-    let end = put_picture(&chart[0..n], has_order, &order[0..m], &mut out);
-    io::write_all(1, &out[0..end]);
+    let end = put_picture(&chart[..n], order, &mut out);
+    io::write_all(1, &out[..end]);
 }

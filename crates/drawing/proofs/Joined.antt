@@ -1,17 +1,18 @@
 -- Lines put one behind the other, one for each number below n; and vertices that stand apart.
 -- Assumes nothing.
 use mathlib.Core.Path.{◌≡◌, refl, sym, ap, ap₂, ◌∙◌}
-use mathlib.Core.Bool.{Bool, true, false, cond, true≢false}
+use mathlib.Core.Bool.{Bool, true, false, cond, true≢false, ◌||◌}
 use mathlib.Core.List.{List, [], ◌∷◌, ◌++◌, append-nil, append_assoc}
-use Prim.Native.Nat.{ℕ, zero, suc, ◌+◌, ◌-◌, ◌*◌, ◌<◌, ◌≤◌}
+use Prim.Native.Nat.{ℕ, zero, suc, ◌+◌, ◌*◌, ◌<◌, ◌≤◌}
 use native.Mathlib.Omega.{arith}
 use native.Mathlib.Decide.{ℕ_discrete}
 use native.Mathlib.Numerals.{add-one}
-use borrow.Author.Tests.{eq-eqb, ne_eqb}
 use lib.Dec.{eqb}
-use lib.ListN.{length, get_or, length-append}
-use Rattle.model.specs.Lists.{up_from, numbers, those, keep, joined}
-use Rattle.model.proofs.Lists.{numbers-snoc}
+use lib.ListN.{length, get_or, take, length-append}
+use Rattle.model.specs.Lists.{numbers, those, keep, joined}
+use Rattle.std.specs.List.{list_any}
+use Rattle.std.proofs.lemmas.List.Folds.{list_any_more}
+use Rattle.model.proofs.Lists.{numbers-snoc, those-snoc}
 use Rattle.layout.specs.Layout.{vertices_in}
 use Rattle.put_text.specs.Puts.{Puts}
 use Rattle.put_text.proofs.Puts.{puts_none, puts_then}
@@ -80,40 +81,22 @@ module _ (f : ℕ → List ℕ) (out : List ℕ) (at : ℕ) where
       → Puts out at (joined f (numbers (v + 1))) r left
   lines_next v h p q = rw (add-one v, lines-add f v) (puts_then h p q)
 
-  pub lines_end : (n v : ℕ) {end : ℕ} {left : List ℕ} → v ≤ n → n ≤ v → Puts out at (joined f (numbers v)) end left → Puts out at (joined f (numbers n)) end left
-  lines_end n v h l p = let e : n ≡ v = omega arith in rw e p
-
 -- ---- vertices apart
 
-module _ (marks : List ℕ) where
-  abbrev apart_from : ℕ → ℕ → List ℕ
-  apart_from n v = those (λ x. eqb (get_or marks x 0) 0) (up_from (n - v) v)
+some-snoc : (b : Bool) (x : ℕ) (xs : List ℕ) → is_some (xs ++ keep b x []) ≡ (is_some xs || b)
+some-snoc true x [] = refl
+some-snoc false x [] = refl
+some-snoc b x (y ∷ ys) = refl
 
-  from_next : (n v : ℕ) → v < n → up_from (n - v) v ≡ v ∷ up_from (n - (v + 1)) (v + 1)
-  from_next n v h =
-      let e : n - v ≡ suc (n - (v + 1)) = omega arith in
-      ap (λ (k : ℕ). up_from k v) e ∙ ap (λ (w : ℕ). v ∷ up_from (n - (v + 1)) w) (sym (add-one v))
-
-  -- no vertex below v is apart
-  abbrev pub NoneBelow : ℕ → ℕ → Type 0
-  NoneBelow n v = marked 0 marks n ≡ apart_from n v
-
-  pub apart-start : (n : ℕ) → NoneBelow n 0
-  apart-start n = let e : n ≡ n - 0 = omega arith in ap (λ (k : ℕ). those (λ x. eqb (get_or marks x 0) 0) (up_from k 0)) e
-
-  pub apart-here : (n v : ℕ) → v < n → get_or marks v 0 ≡ 0 → NoneBelow n v → true ≡ is_some (marked 0 marks n)
-  unfolding those
-  apart-here n v h e so =
-      sym (ap is_some (so ∙ ap (those (λ x. eqb (get_or marks x 0) 0)) (from_next n v h) ∙ ap (λ (b : Bool). keep b v (apart_from n (v + 1))) (eq-eqb _ _ e)))
-
-  pub apart_next : (n v : ℕ) → v < n → (get_or marks v 0 ≡ 0 → ⊥) → NoneBelow n v → NoneBelow n (v + 1)
-  unfolding those
-  apart_next n v h ne so =
-      so ∙ ap (those (λ x. eqb (get_or marks x 0) 0)) (from_next n v h) ∙ ap (λ (b : Bool). keep b v (apart_from n (v + 1))) (ne_eqb _ _ ne)
-
-  pub apart-end : (n v : ℕ) → n ≤ v → NoneBelow n v → false ≡ is_some (marked 0 marks n)
-  unfolding those
-  apart-end n v h so = let e : n - v ≡ 0 = omega arith in sym (ap is_some (so ∙ ap (λ (k : ℕ). those (λ x. eqb (get_or marks x 0) 0) (up_from k v)) e))
+-- a 0 stands among the first n marks
+pub apart-among : (marks : List ℕ) (n : ℕ) → n ≤ length marks → list_any (λ m. eqb m 0) (take n marks) ≡ is_some (marked 0 marks n)
+unfolding those
+apart-among marks zero h = refl
+apart-among marks (suc n) h =
+    let p = λ (v : ℕ). eqb (get_or marks v 0) 0 in
+    rw (← add-one n) (list_any_more (λ m. eqb m 0) marks n 0 (omega arith))
+    ∙ ap (λ (b : Bool). b || p n) (apart-among marks n (omega arith))
+    ∙ sym (ap is_some (ap (those p) (numbers-snoc n) ∙ those-snoc p (numbers n) n) ∙ some-snoc (p n) n (those p (numbers n)))
 
 pub apart_none : (f : ℕ → List ℕ) (vs : List ℕ) → is_some vs ≡ false → apart_text f vs ≡ []
 apart_none f [] e = refl

@@ -1,6 +1,7 @@
 -- What `draw` answers, and the bytes that it leaves.
 -- Assumes nothing.
-use Rattle.std.specs.Prelude.{◌≡◌, ◌↔◌, Bool, true, false, ℕ, ◌+◌, ◌*◌, ◌<◌, ltb, length}
+use Rattle.std.specs.Prelude.{◌≡◌, ◌↔◌, Bool, true, false, ℕ, ◌+◌, ◌*◌, ◌<◌, ltb, length, Ok, Err}
+use Rattle.std.specs.declared.result.Result.{Result}
 use mathlib.Core.List.{List, Memᴰ}
 use Rattle.model.specs.Answers.{number, Reply, answered, refused}
 use Rattle.model.specs.Graph.{Graph, Accepted, vertex_count, edge_count}
@@ -8,8 +9,8 @@ use Rattle.model.specs.Calls.{written}
 use Rattle.text.specs.Read.{read_graph}
 use Rattle.reach.specs.Reach.{reach_marks, Reachable}
 use Rattle.drawing.specs.Drawing.{marked, drawing}
-use Rattle.drawing.specs.declared.DrawAnswer.{DrawAnswer}
-use Rattle.drawing.specs.declared.DrawAnswer.TheVariants.{Drawn, Refused, ShortDrawing}
+use Rattle.drawing.specs.declared.DrawError.{DrawError}
+use Rattle.drawing.specs.declared.DrawError.TheVariants.{Chart, ShortDrawing}
 
 -- the bytes that are asked for: 256, and 64 for each vertex and each edge
 abbrev pub drawing_room : ℕ → ℕ → ℕ
@@ -42,13 +43,13 @@ draw_text text path out = draw_read (read_graph text) path out
 
 -- ---- what the code promises
 
-abbrev pub draw_reply : DrawAnswer → DrawReply
-draw_reply (Drawn n) = drawn n
-draw_reply (Refused f line) = refused_by (number f) line
-draw_reply ShortDrawing = short
+abbrev pub draw_reply : Result ℕ DrawError → DrawReply
+draw_reply (Ok n) = drawn n
+draw_reply (Err (Chart f)) = refused_by (number f.refusal) f.line
+draw_reply (Err ShortDrawing) = short
 
 -- the promise of `draw`: answer and bytes left are the definition's, whatever it is handed
-abbrev pub Drawing : List ℕ → List ℕ → List ℕ → DrawAnswer → List ℕ → Type 0
+abbrev pub Drawing : List ℕ → List ℕ → List ℕ → Result ℕ DrawError → List ℕ → Type 0
 Drawing text path out r left = ◌≡◌ {A = AfterDraw} (record { reply = draw_reply r; bytes = left }) (draw_text text path out)
 
 -- ---- what is claimed of the definition: a vertex is drawn with the others exactly if a path leads to it, and else apart

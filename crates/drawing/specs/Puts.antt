@@ -1,6 +1,7 @@
 -- What the functions that put a drawing promise each other.
 -- Assumes nothing.
 use Rattle.std.specs.Prelude.{◌≡◌, Bool, true, false, ◌&&◌, cond, List, [], ◌∷◌, ℕ, ◌+◌, ◌<◌, ◌≤◌, eqb, ltb, length, get_or, set}
+use Rattle.std.specs.declared.result.Result.{Result}
 use Rattle.model.specs.Lists.{numbers, joined}
 use Rattle.model.specs.Answers.{answered}
 use Rattle.model.specs.Graph.{Graph}
@@ -9,7 +10,7 @@ use Rattle.layout.specs.Read.{graph_in}
 use Rattle.layout.specs.Held.{Held}
 use Rattle.drawing.specs.Drawing.{stands, vertex_line, edge_line, marked, apart_text}
 use Rattle.drawing.specs.Draw.{AfterDraw, draw_reply, draw_read}
-use Rattle.drawing.specs.declared.DrawAnswer.{DrawAnswer}
+use Rattle.drawing.specs.declared.DrawError.{DrawError}
 
 -- ---- bold marks
 
@@ -59,5 +60,5 @@ abbrev pub held_graph : List ℕ → Graph
 held_graph ws = graph_in (vertices_in ws) (edges_in ws) ws
 
 -- a drawing of the graph that the words hold
-abbrev pub DrawingHeld : List ℕ → List ℕ → List ℕ → DrawAnswer → List ℕ → Type 0
+abbrev pub DrawingHeld : List ℕ → List ℕ → List ℕ → Result ℕ DrawError → List ℕ → Type 0
 DrawingHeld ws path out r left = ◌≡◌ {A = AfterDraw} (record { reply = draw_reply r; bytes = left }) (draw_read (answered (held_graph ws)) path out)

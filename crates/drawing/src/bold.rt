@@ -2,7 +2,6 @@
 ghost use Rattle.std.specs.Prelude.{◌≡◌};
 ghost use Rattle.drawing.specs.Puts.{Table, with_mark};
 
-use layout::wide;
 use model::limits::MAX_EDGES;
 
 // Marks the numbers that stand at every other place of a path's words: its vertices from the first place on, else its edges. A word
@@ -12,11 +11,9 @@ pub fn standing(path: &[u32], first: bool) -> [bool; MAX_EDGES]
 {
     let mut table = [false; MAX_EDGES];
     let mut here = first;
-    let mut i = 0;
-    while i < path.len() {
-        mark(&mut table, here, path[i]);
+    for word in path {
+        mark(&mut table, here, *word);
         here = !here;
-        i += 1;
     }
     table
 }
@@ -27,7 +24,7 @@ fn mark(table: &mut [bool; MAX_EDGES], here: bool, word: u32)
     if !here {
         return;
     }
-    let number = wide(word);
+    let number = word as usize;
     if number < MAX_EDGES {
         table[number] = true;
     }

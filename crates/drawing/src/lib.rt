@@ -8,6 +8,7 @@ pub mod lines;
 ghost use Rattle.std.specs.Prelude.{◌≡◌, ◌+◌, ◌<◌, ◌≤◌, length};
 ghost use Rattle.layout.specs.Layout.{vertices_in, edges_in};
 ghost use Rattle.put_text.specs.Puts.{Puts};
+ghost use Rattle.drawing.specs.declared.DrawError.TheVariants.{Chart};
 ghost use Rattle.drawing.specs.Drawing.{marked, drawing_by};
 ghost use Rattle.drawing.specs.Draw.{drawing_room, Drawing};
 ghost use Rattle.drawing.specs.Puts.{HoldsGraph, Room, held_graph, is_some, vertex_if, vertices_text, cluster_text, edge_of, edges_text, DrawingHeld};
@@ -15,44 +16,51 @@ ghost use Rattle.drawing.specs.Puts.{HoldsGraph, Room, held_graph, is_some, vert
 use bold::standing;
 use layout::{EDGES, VERTICES, edge_cost, edge_from, edge_to, header, initial_cost};
 use lines::{put_edge_line, put_vertex_line};
+use model::Refused;
 use model::limits::{MAX_EDGES, MAX_VERTICES};
-use model::{OpenAnswer, Refusal};
 use put_text::put_bytes;
 
 // The words of a forward cache of one slot for the largest graph there is.
 const WORDS: usize = 21518;
 
+// Why there is no drawing: the chart is refused, or the bytes lent are too few.
 #[derive(Clone, Copy)]
-pub enum DrawAnswer {
-    Drawn(usize),
-    Refused { refusal: Refusal, line: usize },
+pub enum DrawError {
+    Chart(Refused),
     ShortDrawing,
 }
 
-// Draws a graph's text, with the vertices and edges of a path bold: path words are as `retrace` shows them, and an empty path makes
-// nothing bold. The drawing stands in front of the bytes lent, which must be 256 and 64 for each vertex and each edge.
-pub fn draw(text: &[u8], path: &[u32], out: &mut [u8]) -> DrawAnswer
-    ensures { Drawing text.now path.now out.old result out.new }
-{
-    let mut words = [0u32; WORDS];
-    match cache::open(&mut words, text, 0, 1) {
-        OpenAnswer::Refused { refusal, line } => DrawAnswer::Refused { refusal, line },
-        OpenAnswer::Opened => draw_held(&words, path, out),
+impl From<Refused> for DrawError {
+    ghost from_gives = { λ f e. e ≡ Chart f };
+
+    fn from(refused: Refused) -> DrawError {
+        DrawError::Chart(refused)
     }
 }
 
+// Draws a graph's text, with the vertices and edges of a path bold: path words are as `retrace` shows them, and an empty path makes
+// nothing bold. The drawing stands in front of the bytes lent, which must be 256 and 64 for each vertex and each edge. Answers how many
+// bytes it has.
+pub fn draw(text: &[u8], path: &[u32], out: &mut [u8]) -> Result<usize, DrawError>
+    ensures { Drawing text.now path.now out.old result out.new }
+{
+    let mut words = [0u32; WORDS];
+    cache::open(&mut words, text, 0, 1)?;
+    draw_held(&words, path, out)
+}
+
 // Draws the graph that the words hold.
-fn draw_held(words: &[u32], path: &[u32], out: &mut [u8]) -> DrawAnswer
+fn draw_held(words: &[u32], path: &[u32], out: &mut [u8]) -> Result<usize, DrawError>
     requires { HoldsGraph words.now }
     ensures { DrawingHeld words.now path.now out.old result out.new }
 {
     let vertices = header(words, VERTICES);
     let edges = header(words, EDGES);
     if out.len() < 256 + 64 * (vertices + edges) {
-        return DrawAnswer::ShortDrawing;
+        return Err(DrawError::ShortDrawing);
     }
     let marks = reach::reached(words);
-    DrawAnswer::Drawn(put_drawing(out, words, &marks, path))
+    Ok(put_drawing(out, words, &marks, path))
 }
 
 // Puts the drawing of the graph that the words hold in front of the bytes lent, and answers how many bytes it has.
@@ -85,12 +93,9 @@ fn put_vertices(
     requires { HoldsGraph words.now × Room out.old at (vertices_text words.now marks.now mark bold.now) }
     ensures { Puts out.old at (vertices_text words.now marks.now mark bold.now) result out.new }
 {
-    let vertices = header(words, VERTICES);
     let mut end = at;
-    let mut v = 0;
-    while v < vertices {
+    for v in 0..header(words, VERTICES) {
         end = put_vertex(out, end, words, marks, mark, bold, v);
-        v += 1;
     }
     end
 }
@@ -141,14 +146,7 @@ fn is_any_apart(marks: &[u32; MAX_VERTICES], vertices: usize) -> bool
     requires { vertices ≤ 1024 }
     ensures { result ≡ is_some (marked 0 marks.now vertices) }
 {
-    let mut v = 0;
-    while v < vertices {
-        if marks[v] == 0 {
-            return true;
-        }
-        v += 1;
-    }
-    false
+    marks[..vertices].contains(&0)
 }
 
 // The edges by number.
@@ -156,12 +154,9 @@ fn put_edges(out: &mut [u8], at: usize, words: &[u32], bold: &[bool; MAX_EDGES])
     requires { HoldsGraph words.now × Room out.old at (edges_text words.now bold.now) }
     ensures { Puts out.old at (edges_text words.now bold.now) result out.new }
 {
-    let edges = header(words, EDGES);
     let mut end = at;
-    let mut e = 0;
-    while e < edges {
+    for e in 0..header(words, EDGES) {
         end = put_edge(out, end, words, bold, e);
-        e += 1;
     }
     end
 }

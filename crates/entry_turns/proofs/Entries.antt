@@ -1,14 +1,12 @@
 -- An entry's slot read: its goals are vertices, and what is found or counted in its words is so in its tree.
 -- Assumes nothing.
 use mathlib.Core.Path.{◌≡◌, refl, ap}
+use Rattle.std.specs.Prelude.{Some}
+use Rattle.std.specs.declared.option.Option.{Option}
 use mathlib.Core.Bool.{Bool}
 use mathlib.Core.List.{List}
 use Prim.Native.Nat.{ℕ}
 use native.Mathlib.Omega.{arith}
-use Rattle.model.specs.declared.CostBound.{CostBound}
-use Rattle.model.specs.declared.KnownLen.{KnownLen}
-use Rattle.model.specs.declared.KnownLen.TheVariants.{Len}
-use Rattle.model.specs.declared.Solution.{Solution}
 use Rattle.model.specs.Tree.{Tree, least}
 use Rattle.model.specs.Search.{closed_count, lookup, under}
 use Rattle.layout.specs.Read.{read_cache}
@@ -28,16 +26,16 @@ module _ {ws : List ℕ} {i : ℕ} {gs : List ℕ} (can : CanTurn ws i gs) {t : 
   pub can-look-up : CanLookUp l t gs
   can-look-up = record { formed = words-formed can.used et el; goals = has-goals }
 
-  pub looked-up : (known : KnownLen) {r : Solution} → looks_up (read_cache ws).domain ws l t gs known r → LooksUp ws i gs known r
+  pub looked-up : (known : Option ℕ) {r : Option ℕ} → looks_up (read_cache ws).domain ws l t gs known r → LooksUp ws i gs known r
   looked-up known f = words-value can.used et el (λ (u : Tree). lookup (read_cache ws).domain u gs known) f
 
 -- n: the closed count; more: the test of the first ticket
 module _ {ws : List ℕ} {i : ℕ} (u : InUse ws i) {t : List ℕ} (et : t ≡ slot_words (vertices_in ws) (edges_in ws) i ws) {l : ℕ} (el : l ≡ edges_in ws)
-    (g : Grown) (b : CostBound) {n : ℕ} {more : Bool} where
+    (g : Grown) (b : Option ℕ) {n : ℕ} {more : Bool} where
   pub remembers : ClosedCountIs l t n → UnderIs l t b more
-      → Remembers (tree_at ws i) g b (record { known = Len n; find = g.solution; more = more; tickets = g.tickets })
+      → Remembers (tree_at ws i) g b (record { known = Some n; find = g.solution; more = more; tickets = g.tickets })
   remembers count test = record {
-    known = ap Len (words-value u et el (λ (x : Tree). closed_count x.closed) (count ws));
+    known = ap Some (words-value u et el (λ (x : Tree). closed_count x.closed) (count ws));
     find = refl;
     more = words-value u et el (λ (x : Tree). under x.nodes (least x.nodes x.waiting) b) (test ws);
     tickets = refl;

@@ -1,6 +1,8 @@
 -- The turn of an entry in the words: a find by lookup leaves them, and growing leaves the model's tree in the slot.
 -- Assumes nothing.
 use mathlib.Core.Path.{◌≡◌, refl, sym, ap, ◌∙◌, subst}
+use Rattle.std.specs.declared.option.Option.{Option}
+use Rattle.std.specs.Prelude.{None, Some}
 use mathlib.Core.Logic.{inl}
 use mathlib.Core.Bool.{false}
 use mathlib.Core.List.{List}
@@ -8,10 +10,6 @@ use Prim.Native.Nat.{ℕ}
 use native.Mathlib.Omega.{arith}
 use lib.ListN.{set}
 use lib.Seq.{set-get_or, get_or-set_same}
-use Rattle.model.specs.declared.CostBound.{CostBound}
-use Rattle.model.specs.declared.KnownLen.TheVariants.{Never, Len}
-use Rattle.model.specs.declared.Solution.{Solution}
-use Rattle.model.specs.declared.Solution.TheVariants.{Unsolved, At}
 use Rattle.model.specs.declared.TreeMemory.{TreeMemory}
 use Rattle.model.specs.Tree.{Tree, least}
 use Rattle.model.specs.Sound.{no_tree, tree}
@@ -30,7 +28,7 @@ use Rattle.entry_turns.proofs.Turning.{turn-found, turn-grown}
 pub tree-left : {ws : List ℕ} (left : List ℕ) {i : ℕ} → InUse ws i → (t : Tree) → read_cache left ≡ with_trees (read_cache ws) (set (read_cache ws).trees i t) → tree_at left i ≡ t
 tree-left {ws} left {i} u t e = ap (λ (c : Cache). tree c.trees i) e ∙ get_or-set_same (read_cache ws).trees i t no_tree (omega (arith, trees-length ws, u.slot))
 
-module _ {ws : List ℕ} {i : ℕ} {gs : List ℕ} (u : InUse ws i) {b : CostBound} {g : Grown} {left : List ℕ} (grew : Grew ws i gs b g left) where
+module _ {ws : List ℕ} {i : ℕ} {gs : List ℕ} (u : InUse ws i) {b : Option ℕ} {g : Grown} {left : List ℕ} (grew : Grew ws i gs b g left) where
   pub can-remember : InUse left i
   can-remember = record { sound = grew.sound; slot = omega (arith, u.slot, grew.outside.word 4 (inl (omega arith))) }
 
@@ -39,7 +37,7 @@ module _ {ws : List ℕ} {i : ℕ} {gs : List ℕ} (u : InUse ws i) {b : CostBou
   grown-turns m =
       let same = tree-left left u (growth_of ws i gs b).tree grew.cache in
       record {
-        known = m.known ∙ ap (λ (t : Tree). Len (closed_count t.closed)) same;
+        known = m.known ∙ ap (λ (t : Tree). Some (closed_count t.closed)) same;
         find = m.find ∙ grew.solution;
         more = m.more ∙ ap (λ (t : Tree). under t.nodes (least t.nodes t.waiting) b) same;
         tickets = m.tickets ∙ grew.tickets;
@@ -48,14 +46,14 @@ module _ {ws : List ℕ} {i : ℕ} {gs : List ℕ} (u : InUse ws i) {b : CostBou
         outside = grew.outside;
       }
 
-module _ {ws : List ℕ} (e : TreeMemory) {gs : List ℕ} (can : CanTurn ws e.tree gs) (b : CostBound) {o : Solution} (l : LooksUp ws e.tree gs e.last_known_closed_len o) where
-  pub turns-grown : {r : Outcome} {left : List ℕ} → o ≡ Unsolved → Turns ws e.tree (grown (growth_of ws e.tree gs b) b) r left → Turns ws e.tree (turn_of ws e gs b) r left
+module _ {ws : List ℕ} (e : TreeMemory) {gs : List ℕ} (can : CanTurn ws e.tree gs) (b : Option ℕ) {o : Option ℕ} (l : LooksUp ws e.tree gs e.last_known_closed_len o) where
+  pub turns-grown : {r : Outcome} {left : List ℕ} → o ≡ None → Turns ws e.tree (grown (growth_of ws e.tree gs b) b) r left → Turns ws e.tree (turn_of ws e gs b) r left
   turns-grown {r} {left} z t =
       subst (λ (u : Turn). Turns ws e.tree u r left) (sym (turn-grown (read_cache ws).domain gs b (tree_at ws e.tree) e.last_known_closed_len (sym l ∙ z))) t
 
-  pub turns-found : {n : ℕ} → o ≡ At n → Turns ws e.tree (turn_of ws e gs b) (record { known = Never; find = o; more = false; tickets = 0 }) ws
+  pub turns-found : {n : ℕ} → o ≡ Some n → Turns ws e.tree (turn_of ws e gs b) (record { known = None; find = o; more = false; tickets = 0 }) ws
   turns-found {n} z =
-      subst (λ (u : Turn). Turns ws e.tree u (record { known = Never; find = o; more = false; tickets = 0 }) ws)
+      subst (λ (u : Turn). Turns ws e.tree u (record { known = None; find = o; more = false; tickets = 0 }) ws)
       (sym (turn-found (read_cache ws).domain gs b (tree_at ws e.tree) e.last_known_closed_len n (sym l ∙ z)))
       (record {
         known = refl;

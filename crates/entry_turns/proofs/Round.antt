@@ -1,6 +1,8 @@
 -- The turn of entry i in the words is the model's round: what the functions of a turn ask for, and what is known after it.
 -- Assumes nothing.
 use mathlib.Core.Path.{◌≡◌, refl, sym, ap, ap₂, ◌∙◌, subst}
+use Rattle.std.specs.Prelude.{None, Some}
+use Rattle.std.specs.declared.option.Option.{Option}
 use mathlib.Core.Logic.{inl}
 use mathlib.Core.Bool.{Bool}
 use mathlib.Core.List.{List}
@@ -8,11 +10,7 @@ use Prim.Native.Nat.{ℕ, ◌<◌, ◌≤◌}
 use native.Mathlib.Omega.{arith}
 use lib.ListN.{length, get_or}
 use lib.Seq.{get_or-take, length-take-le}
-use Rattle.model.specs.declared.CostBound.{CostBound}
-use Rattle.model.specs.declared.KnownLen.{KnownLen}
-use Rattle.model.specs.declared.Solution.{Solution}
 use Rattle.model.specs.declared.BestSolution.{BestSolution}
-use Rattle.model.specs.declared.BestSolution.TheVariants.{NoBest, Best}
 use Rattle.model.specs.declared.Search.{Search}
 use Rattle.model.specs.Graph.{Domain, Accepted}
 use Rattle.model.specs.Tree.{Tree, Node}
@@ -29,7 +27,7 @@ use Rattle.grow.specs.Grow.{Outside}
 use Rattle.memory.specs.Memory.{Fits, FitsWords, HasNode}
 use Rattle.memory.proofs.Fits.{in_use, best-few, best-node}
 use Rattle.entry_turns.specs.declared.Outcome.{Outcome}
-use Rattle.entry_turns.specs.declared.Found.{Found}
+use Rattle.entry_turns.specs.declared.Find.{Find}
 use Rattle.entry_turns.specs.Turn.{CanStep, tree_at, best_entry, CanBound, bound_in, CanTurn, turn_of, Turns, CanRecord, found_in, found_of}
 use Rattle.entry_turns.proofs.Held.{with_found, with-found}
 use Rattle.entry_turns.proofs.Turning.{turn-few}
@@ -55,16 +53,16 @@ pub record Rounds (ws : List ℕ) (s : Search) (i : ℕ) (next : Search) (k : �
   pub fits : FitsWords left next
   pub outside : Outside (vertices_in ws) (edges_in ws) (entry s i).tree ws left
 
-bound-in : (d : Domain) (ts : List Tree) (s : Search) (x : BestSolution) → bound_in d (tree ts (entry s (best_entry x)).tree).nodes x ≡ bound_of d ts s x
-bound-in d ts s NoBest = refl
-bound-in d ts s (Best i n) = refl
+bound-in : (d : Domain) (ts : List Tree) (s : Search) (x : Option BestSolution) → bound_in d (tree ts (entry s (best_entry x)).tree).nodes x ≡ bound_of d ts s x
+bound-in d ts s None = refl
+bound-in d ts s (Some b) = refl
 
 pub best-place : {ws : List ℕ} {s : Search} → CanStep ws s → {j : ℕ} → j ≡ best_entry s.best_solution → j < 64
 best-place {ws} {s} can {j} e = go s.best_solution refl e
   where
-    go : (x : BestSolution) → s.best_solution ≡ x → j ≡ best_entry x → j < 64
-    go NoBest z h = omega arith
-    go (Best k n) z h = omega (arith, best-few can.sound can.fits z)
+    go : (x : Option BestSolution) → s.best_solution ≡ x → j ≡ best_entry x → j < 64
+    go None z h = omega arith
+    go (Some b) z h = omega (arith, best-few can.sound can.fits z)
 
 module _ {ws : List ℕ} {s : Search} {i : ℕ} (has : HasEntry ws s i) where
   abbrev slot : ℕ
@@ -76,7 +74,7 @@ module _ {ws : List ℕ} {s : Search} {i : ℕ} (has : HasEntry ws s i) where
   abbrev ts : List Tree
   ts = (read_cache ws).trees
 
-  abbrev most : CostBound
+  abbrev most : Option ℕ
   most = bound d ts s
 
   used : InUse ws slot
@@ -89,9 +87,9 @@ module _ {ws : List ℕ} {s : Search} {i : ℕ} (has : HasEntry ws s i) where
 
   module _ {j : ℕ} (e : j ≡ best_entry s.best_solution) where
     pub can-bound : CanBound ws s.best_solution (entry s j).tree
-    can-bound k n z = subst (λ (m : ℕ). HasNode ws (entry s m).tree n) (sym (e ∙ ap best_entry z)) (best-node has.can.sound has.can.fits z)
+    can-bound b z = subst (λ (m : ℕ). HasNode ws (entry s m).tree b.node) (sym (e ∙ ap best_entry z)) (best-node has.can.sound has.can.fits z)
 
-    pub bound-is : {b : CostBound} → b ≡ bound_in d (tree_at ws (entry s j).tree).nodes s.best_solution → b ≡ most
+    pub bound-is : {b : Option ℕ} → b ≡ bound_in d (tree_at ws (entry s j).tree).nodes s.best_solution → b ≡ most
     bound-is h =
         h
         ∙ ap (λ (m : ℕ). bound_in d (tree_at ws (entry s m).tree).nodes s.best_solution) e
@@ -109,13 +107,13 @@ module _ {ws : List ℕ} {s : Search} {i : ℕ} (has : HasEntry ws s i) where
             let few : j < s.goal_count = omega (arith, ap length e, long) in
             omega (arith, ap (λ (l : List ℕ). get_or l j 0) e, get_or-take s.goal_count s.goal_keys j 0 few, has.can.fits.goals j few)
 
-    module _ {b : CostBound} {r : Outcome} {left : List ℕ} (most-is : b ≡ most) (lent : Turns ws slot (turn_of ws (entry s i) gs b) r left) where
+    module _ {b : Option ℕ} {r : Outcome} {left : List ℕ} (most-is : b ≡ most) (lent : Turns ws slot (turn_of ws (entry s i) gs b) r left) where
       abbrev u : Turn
       u = turn d (goals s) most (tree_at ws slot) (entry s i).last_known_closed_len
 
       turns : Turns ws slot u r left
       turns =
-          subst (λ (x : CostBound). Turns ws slot (turn_of ws (entry s i) (goals s) x) r left) most-is
+          subst (λ (x : Option ℕ). Turns ws slot (turn_of ws (entry s i) (goals s) x) r left) most-is
           (subst (λ (l : List ℕ). Turns ws slot (turn_of ws (entry s i) l b) r left) e lent)
 
       acc : Accepted d.graph
@@ -152,7 +150,7 @@ module _ {ws : List ℕ} {s : Search} {i : ℕ} (has : HasEntry ws s i) where
 
       -- ---- what is recorded: the count and the mark, then the find
 
-      pub rounds : {counted marked next : Search} {f : Found} → counted ≡ remembered s i r.known → marked ≡ unfinished_if r.more counted
+      pub rounds : {counted marked next : Search} {f : Option Find} → counted ≡ remembered s i r.known → marked ≡ unfinished_if r.more counted
           → f ≡ found_of left (entry s i) r.find b → next ≡ with_found marked i f → Rounds ws s i next r.tickets left
       unfolding round
       rounds {marked = marked} {next} {f} count mark found h = record {
@@ -174,15 +172,15 @@ module _ {ws : List ℕ} {s : Search} {i : ℕ} (has : HasEntry ws s i) where
           rest = unfinished_if u.more (remembered s i u.known)
 
           rest-is : marked ≡ rest
-          rest-is = mark ∙ ap (unfinished_if r.more) count ∙ ap₂ (λ (m : Bool) (known : KnownLen). unfinished_if m (remembered s i known)) turns.more turns.known
+          rest-is = mark ∙ ap (unfinished_if r.more) count ∙ ap₂ (λ (m : Bool) (known : Option ℕ). unfinished_if m (remembered s i known)) turns.more turns.known
 
           -- what was found is what the model's turn gives
           found-is : f ≡ found_in d ns (entry rest i).solution most u.find
           found-is =
               found
               ∙ ap₂ (λ (c : Cache) (t : Tree). found_in c.domain t.nodes (entry s i).solution b r.find) turns.cache left-tree
-              ∙ ap₂ (λ (m : CostBound) (o : Solution). found_in d ns (entry s i).solution m o) most-is turns.find
-              ∙ sym (ap (λ (x : Solution). found_in d ns x most u.find) (held_kept s i u.more u.known))
+              ∙ ap₂ (λ (m : Option ℕ) (o : Option ℕ). found_in d ns (entry s i).solution m o) most-is turns.find
+              ∙ sym (ap (λ (x : Option ℕ). found_in d ns x most u.find) (held_kept s i u.more u.known))
 
           search_is : next ≡ (round_of ws s i).search
-          search_is = h ∙ ap₂ (λ (x : Search) (y : Found). with_found x i y) rest-is found-is ∙ with-found d ns most rest i u.find
+          search_is = h ∙ ap₂ (λ (x : Search) (y : Option Find). with_found x i y) rest-is found-is ∙ with-found d ns most rest i u.find

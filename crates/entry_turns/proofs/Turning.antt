@@ -1,37 +1,33 @@
 -- The model's turn in its two cases. It takes at most ten tickets; so do rounds, each.
 -- Assumes nothing.
 use mathlib.Core.Path.{◌≡◌, ap}
+use Rattle.std.specs.declared.option.Option.{Option}
+use Rattle.std.specs.Prelude.{None, Some}
 use mathlib.Core.Bool.{Bool, true, false, not}
-use mathlib.Core.Option.{Option, none, some}
 use mathlib.Core.List.{List}
 use Prim.Native.Nat.{ℕ, zero, suc, ◌+◌, ◌*◌, ◌≤◌}
 use native.Mathlib.Omega.{arith}
 use lib.Dec.{eqb}
-use Rattle.model.specs.declared.CostBound.{CostBound}
-use Rattle.model.specs.declared.KnownLen.{KnownLen}
-use Rattle.model.specs.declared.KnownLen.TheVariants.{Never}
-use Rattle.model.specs.declared.Solution.{Solution}
-use Rattle.model.specs.declared.Solution.TheVariants.{Unsolved, At}
 use Rattle.model.specs.Graph.{Domain}
 use Rattle.model.specs.Tree.{Tree, node, closed_at, least, Going, on, found, over, Growth, taken, ticket_of, ticket, grow}
 use Rattle.model.specs.Sound.{tree}
 use Rattle.model.specs.Search.{entry, goals, lookup, grown, turn_by, turn, bound, Walk, round, rounds}
 
-module _ (d : Domain) (gs : List ℕ) (b : CostBound) (t : Tree) where
+module _ (d : Domain) (gs : List ℕ) (b : Option ℕ) (t : Tree) where
   abbrev pub growth : Growth
   growth = grow d gs b 10 (record { tree = t; tickets = 0; going = on })
 
-  pub turn-found : (known : KnownLen) (n : ℕ) → lookup d t gs known ≡ At n → turn d gs b t known ≡ record { tree = t; known = Never; find = At n; more = false; tickets = 0 }
+  pub turn-found : (known : Option ℕ) (n : ℕ) → lookup d t gs known ≡ Some n → turn d gs b t known ≡ record { tree = t; known = None; find = Some n; more = false; tickets = 0 }
   unfolding turn
   turn-found known n e = ap (turn_by d gs b t) e
 
-  pub turn-grown : (known : KnownLen) → lookup d t gs known ≡ Unsolved → turn d gs b t known ≡ grown growth b
+  pub turn-grown : (known : Option ℕ) → lookup d t gs known ≡ None → turn d gs b t known ≡ grown growth b
   unfolding turn
   turn-grown known e = ap (turn_by d gs b t) e
 
 -- ---- tickets
 
-module _ (d : Domain) (gs : List ℕ) (b : CostBound) where
+module _ (d : Domain) (gs : List ℕ) (b : Option ℕ) where
   taken-few : (t : Tree) (k n : ℕ) (q : Bool) → (taken d gs b t k n q).tickets ≤ suc k
   unfolding taken
   taken-few t k n true = omega arith
@@ -42,8 +38,8 @@ module _ (d : Domain) (gs : List ℕ) (b : CostBound) where
   ticket-few t k on = go (least t.nodes t.waiting)
     where
       go : (o : Option ℕ) → (ticket_of d gs b t k o).tickets ≤ suc k
-      go none = omega arith
-      go (some n) = taken-few t k n (not (eqb (closed_at t.closed (node t.nodes n).vertex) 0))
+      go None = omega arith
+      go (Some n) = taken-few t k n (not (eqb (closed_at t.closed (node t.nodes n).vertex) 0))
   ticket-few t k (found i) = omega arith
   ticket-few t k over = omega arith
 
@@ -54,12 +50,12 @@ module _ (d : Domain) (gs : List ℕ) (b : CostBound) where
       let next : Growth = ticket d gs b g.tree g.tickets g.going in
       omega (arith, grow-few j next, ticket-few g.tree g.tickets g.going)
 
-turn_by-few : (d : Domain) (gs : List ℕ) (b : CostBound) (t : Tree) (f : Solution) → (turn_by d gs b t f).tickets ≤ 10
+turn_by-few : (d : Domain) (gs : List ℕ) (b : Option ℕ) (t : Tree) (f : Option ℕ) → (turn_by d gs b t f).tickets ≤ 10
 unfolding turn_by grown
-turn_by-few d gs b t Unsolved = omega (arith, grow-few d gs b 10 (record { tree = t; tickets = 0; going = on }))
-turn_by-few d gs b t (At n) = omega arith
+turn_by-few d gs b t None = omega (arith, grow-few d gs b 10 (record { tree = t; tickets = 0; going = on }))
+turn_by-few d gs b t (Some n) = omega arith
 
-pub turn-few : (d : Domain) (gs : List ℕ) (b : CostBound) (t : Tree) (known : KnownLen) → (turn d gs b t known).tickets ≤ 10
+pub turn-few : (d : Domain) (gs : List ℕ) (b : Option ℕ) (t : Tree) (known : Option ℕ) → (turn d gs b t known).tickets ≤ 10
 unfolding turn
 turn-few d gs b t known = turn_by-few d gs b t (lookup d t gs known)
 

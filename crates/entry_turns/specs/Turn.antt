@@ -1,14 +1,8 @@
 -- The turns of a search's entries in the words of a cache: what the code promises.
 -- Assumes nothing.
-use Rattle.std.specs.Prelude.{◌≡◌, Bool, true, false, List, ℕ, ◌<◌, ltb, length, get_or, set}
-use Rattle.model.specs.declared.CostBound.{CostBound}
-use Rattle.model.specs.declared.CostBound.TheVariants.{Unbounded, Bound}
-use Rattle.model.specs.declared.KnownLen.{KnownLen}
-use Rattle.model.specs.declared.KnownLen.TheVariants.{Len}
-use Rattle.model.specs.declared.Solution.{Solution}
-use Rattle.model.specs.declared.Solution.TheVariants.{Unsolved, At}
+use Rattle.std.specs.Prelude.{◌≡◌, Bool, true, false, List, ℕ, ◌<◌, ltb, length, get_or, set, None, Some}
+use Rattle.std.specs.declared.option.Option.{Option}
 use Rattle.model.specs.declared.BestSolution.{BestSolution}
-use Rattle.model.specs.declared.BestSolution.TheVariants.{NoBest, Best}
 use Rattle.model.specs.declared.TreeMemory.{TreeMemory}
 use Rattle.model.specs.declared.Search.{Search}
 use Rattle.model.specs.Graph.{Domain}
@@ -26,8 +20,7 @@ use Rattle.grow.specs.Grow.{Outside}
 use Rattle.memory.specs.Memory.{FitsWords, HasNode}
 use Rattle.entry_turns.specs.declared.Turned.{Turned}
 use Rattle.entry_turns.specs.declared.Outcome.{Outcome}
-use Rattle.entry_turns.specs.declared.Found.{Found}
-use Rattle.entry_turns.specs.declared.Found.TheVariants.{Nothing, Replaces}
+use Rattle.entry_turns.specs.declared.Find.{Find}
 
 -- ---- "Otherwise, for each entry in order"
 
@@ -57,7 +50,7 @@ pub record CanTurn (ws : List ℕ) (i : ℕ) (gs : List ℕ) : Type 0 where
   pub goals : (j : ℕ) → j < length gs → get_or gs j 0 < vertices_in ws
 
 -- the model's turn of the entry e, with goals gs and the bound b
-abbrev pub turn_of : List ℕ → TreeMemory → List ℕ → CostBound → Turn
+abbrev pub turn_of : List ℕ → TreeMemory → List ℕ → Option ℕ → Turn
 turn_of ws e gs b = turn (read_cache ws).domain gs b (tree_at ws e.tree) e.last_known_closed_len
 
 -- the turn u: what came of it, and the words hold the tree that it left
@@ -72,41 +65,41 @@ pub record Turns (ws : List ℕ) (i : ℕ) (u : Turn) (r : Outcome) (left : List
 
 -- ---- 1. "The bound is the best total before this entry's turn"; "the cheapest closed wanted motif, first in the list on ties, is the find"
 
-abbrev pub best_entry : BestSolution → ℕ
-best_entry NoBest = 0
-best_entry (Best i n) = i
+abbrev pub best_entry : Option BestSolution → ℕ
+best_entry None = 0
+best_entry (Some b) = b.entry
 
 -- the best, if there is one, is a node of the tree in slot i
-abbrev pub CanBound : List ℕ → BestSolution → ℕ → Type 0
-CanBound ws best i = (j n : ℕ) → best ≡ Best j n → HasNode ws i n
+abbrev pub CanBound : List ℕ → Option BestSolution → ℕ → Type 0
+CanBound ws best i = (b : BestSolution) → best ≡ Some b → HasNode ws i b.node
 
-abbrev pub bound_in : Domain → List Node → BestSolution → CostBound
-bound_in d ns NoBest = Unbounded
-bound_in d ns (Best i n) = Bound (solution_cost d ns n)
+abbrev pub bound_in : Domain → List Node → Option BestSolution → Option ℕ
+bound_in d ns None = None
+bound_in d ns (Some b) = Some (solution_cost d ns b.node)
 
 pub record CanLookUp (l : ℕ) (t gs : List ℕ) : Type 0 where
   pub formed : Formed l t
   pub goals : HasGoals l t gs
 
-abbrev pub looks_up : Domain → List ℕ → ℕ → List ℕ → List ℕ → KnownLen → Solution → Type 0
+abbrev pub looks_up : Domain → List ℕ → ℕ → List ℕ → List ℕ → Option ℕ → Option ℕ → Type 0
 looks_up d ws l t gs known r = r ≡ lookup d (tree_of ws l t) gs known
 
-abbrev pub LooksUp : List ℕ → ℕ → List ℕ → KnownLen → Solution → Type 0
+abbrev pub LooksUp : List ℕ → ℕ → List ℕ → Option ℕ → Option ℕ → Type 0
 LooksUp ws i gs known r = r ≡ lookup (read_cache ws).domain (tree_at ws i) gs known
 
 -- for the words ws of any cache: whether the closed count of the tree t is the remembered one
-abbrev pub KnownIs : ℕ → List ℕ → KnownLen → Bool → Type 0
+abbrev pub KnownIs : ℕ → List ℕ → Option ℕ → Bool → Type 0
 KnownIs l t known r = (ws : List ℕ) → r ≡ remembers known (closed_count (tree_of ws l t).closed)
 
 -- ---- 2. and 3. "the closed count is remembered, and a queue .. keeps the search unfinished"
 
 -- for the words ws of any cache: whether the first ticket of the tree t is under the bound b
-abbrev pub UnderIs : ℕ → List ℕ → CostBound → Bool → Type 0
+abbrev pub UnderIs : ℕ → List ℕ → Option ℕ → Bool → Type 0
 UnderIs l t b r = (ws : List ℕ) → r ≡ under (tree_of ws l t).nodes (least (tree_of ws l t).nodes (tree_of ws l t).waiting) b
 
 -- what comes of the growing g that left the tree t
-pub record Remembers (t : Tree) (g : Grown) (b : CostBound) (r : Outcome) : Type 0 where
-  pub known : r.known ≡ Len (closed_count t.closed)
+pub record Remembers (t : Tree) (g : Grown) (b : Option ℕ) (r : Outcome) : Type 0 where
+  pub known : r.known ≡ Some (closed_count t.closed)
   pub find : r.find ≡ g.solution
   pub more : r.more ≡ under t.nodes (least t.nodes t.waiting) b
   pub tickets : r.tickets ≡ g.tickets
@@ -114,28 +107,28 @@ pub record Remembers (t : Tree) (g : Grown) (b : CostBound) (r : Outcome) : Type
 -- ---- 4. "A find replaces the entry's run unless dearer, and is best only if strictly cheaper."
 
 -- what the entry e holds, and the find o, are nodes of its tree
-pub record CanRecord (ws : List ℕ) (e : TreeMemory) (o : Solution) : Type 0 where
+pub record CanRecord (ws : List ℕ) (e : TreeMemory) (o : Option ℕ) : Type 0 where
   pub used : InUse ws e.tree
-  pub held : (n : ℕ) → e.solution ≡ At n → n < length (tree_at ws e.tree).nodes
-  pub find : (n : ℕ) → o ≡ At n → n < length (tree_at ws e.tree).nodes
+  pub held : (n : ℕ) → e.solution ≡ Some n → n < length (tree_at ws e.tree).nodes
+  pub find : (n : ℕ) → o ≡ Some n → n < length (tree_at ws e.tree).nodes
 
-pub record CanCompare (ws : List ℕ) (i : ℕ) (held : Solution) : Type 0 where
+pub record CanCompare (ws : List ℕ) (i : ℕ) (held : Option ℕ) : Type 0 where
   pub used : InUse ws i
-  pub node : (n : ℕ) → held ≡ At n → n < length (tree_at ws i).nodes
+  pub node : (n : ℕ) → held ≡ Some n → n < length (tree_at ws i).nodes
 
 -- a solution that is worth less than k is held
-abbrev pub dearer_in : Domain → List Node → ℕ → Solution → Bool
-dearer_in d ns k Unsolved = false
-dearer_in d ns k (At h) = ltb (solution_cost d ns h) k
+abbrev pub dearer_in : Domain → List Node → ℕ → Option ℕ → Bool
+dearer_in d ns k None = false
+dearer_in d ns k (Some h) = ltb (solution_cost d ns h) k
 
-abbrev pub found_unless : Bool → ℕ → Bool → Found
-found_unless true n x = Nothing
-found_unless false n x = Replaces n x
+abbrev pub found_unless : Bool → ℕ → Bool → Option Find
+found_unless true n x = None
+found_unless false n x = Some (record { node = n; is_best = x })
 
 -- what the find comes to, where h was held and b is the bound
-abbrev pub found_in : Domain → List Node → Solution → CostBound → Solution → Found
-found_in d ns h b Unsolved = Nothing
-found_in d ns h b (At n) = found_unless (dearer_in d ns (solution_cost d ns n) h) n (cheaper (solution_cost d ns n) b)
+abbrev pub found_in : Domain → List Node → Option ℕ → Option ℕ → Option ℕ → Option Find
+found_in d ns h b None = None
+found_in d ns h b (Some n) = found_unless (dearer_in d ns (solution_cost d ns n) h) n (cheaper (solution_cost d ns n) b)
 
-abbrev pub found_of : List ℕ → TreeMemory → Solution → CostBound → Found
+abbrev pub found_of : List ℕ → TreeMemory → Option ℕ → Option ℕ → Option Find
 found_of ws e o b = found_in (read_cache ws).domain (tree_at ws e.tree).nodes e.solution b o

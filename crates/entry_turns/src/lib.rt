@@ -15,7 +15,7 @@ ghost use Rattle.entry_turns.specs.Turn.{CanStep, Steps, tree_at, best_entry, Ca
 use grow::Grown;
 use layout::slots::slot_words;
 use memory::solution_cost;
-use model::{BestSolution, CostBound, KnownLen, Search, Solution, TreeMemory};
+use model::{BestSolution, Search, TreeMemory};
 use tree::partial_keyed_closed_set::{cheapest_goal, closed_keys_len};
 
 // The search after some turns, and the tickets taken in them.
@@ -29,17 +29,17 @@ pub struct Turned {
 // and the tickets taken.
 #[derive(Clone, Copy)]
 pub struct Outcome {
-    pub known: KnownLen,
-    pub find: Solution,
+    pub known: Option<u32>,
+    pub find: Option<u32>,
     pub more: bool,
     pub tickets: usize,
 }
 
-// What an entry's find comes to: there is nothing to record, or it replaces what the entry holds, and may be the best.
+// A find that replaces what its entry holds, and may be the best.
 #[derive(Clone, Copy)]
-pub enum Found {
-    Nothing,
-    Replaces { node: u32, is_best: bool },
+pub struct Find {
+    pub node: u32,
+    pub is_best: bool,
 }
 
 // The turn of each entry in order. The search is finished unless a queue says otherwise.
@@ -52,26 +52,22 @@ pub fn step_trees(words: &mut [u32], search: Search) -> Turned
     let goals = &keys[0..count];
     let mut next = search.with_exhausted(true);
     let mut tickets = 0;
-    let mut i = 0;
-    while i < search.tree_count {
+    for i in 0..search.tree_count {
         let memory = next.trees[i as usize];
         let best = next.best_solution;
         let holder = next.trees[best_entry(best)];
         let bound = cost_bound(words, best, holder.tree as usize);
         let r = turn(words, memory, goals, bound);
-        let known = r.known;
-        if let KnownLen::Len(len) = known {
+        if let Some(len) = r.known {
             next = next.with_known_len(i, len);
         }
         if r.more {
             next = next.with_exhausted(false);
         }
-        let find = r.find;
-        if let Found::Replaces { node, is_best } = judge(words, memory, find, bound) {
-            next = next.with_find(i, node, is_best);
+        if let Some(found) = judge(words, memory, r.find, bound) {
+            next = next.with_find(i, found.node, found.is_best);
         }
         tickets += r.tickets;
-        i += 1;
     }
     Turned {
         search: next,
@@ -80,37 +76,36 @@ pub fn step_trees(words: &mut [u32], search: Search) -> Turned
 }
 
 // The entry that found the best; with no best, any.
-pub fn best_entry(best: BestSolution) -> usize
+pub fn best_entry(best: Option<BestSolution>) -> usize
     ensures { result ≡ best_entry best }
 {
-    match best {
-        BestSolution::NoBest => 0,
-        BestSolution::Best { entry, node: _ } => entry as usize,
-    }
+    best.map_or(0, |b| b.entry as usize)
 }
 
 // What the best costs, a node of the tree in a slot: the bound of an entry's turn.
-fn cost_bound(words: &[u32], best: BestSolution, slot: usize) -> CostBound
+fn cost_bound(words: &[u32], best: Option<BestSolution>, slot: usize) -> Option<u64>
     requires { CanBound words.now best slot }
     ensures { result ≡ bound_in (read_cache words.now).domain (tree_at words.now slot).nodes best }
 {
-    match best {
-        BestSolution::NoBest => CostBound::Unbounded,
-        BestSolution::Best { entry: _, node } => CostBound::Bound(solution_cost(words, slot, node)),
-    }
+    let held = best?;
+    Some(solution_cost(words, slot, held.node))
 }
 
 // An entry's turn: a closed goal is looked up, and with no find the tree is grown. After a find by lookup nothing is remembered.
-fn turn(words: &mut [u32], memory: TreeMemory, goals: &[u32], bound: CostBound) -> Outcome
+fn turn(words: &mut [u32], memory: TreeMemory, goals: &[u32], bound: Option<u64>) -> Outcome
     requires { CanTurn words.old memory.tree goals.now }
     ensures { Turns words.old memory.tree (turn_of words.old memory goals.now bound) result words.new }
 {
-    let known = memory.last_known_closed_len;
-    let find = look_up(words, memory.tree as usize, goals, known);
+    let find = look_up(
+        words,
+        memory.tree as usize,
+        goals,
+        memory.last_known_closed_len,
+    );
     match find {
-        Solution::Unsolved => grow_tree(words, memory.tree as usize, goals, bound),
-        Solution::At(_) => Outcome {
-            known: KnownLen::Never,
+        None => grow_tree(words, memory.tree as usize, goals, bound),
+        Some(_) => Outcome {
+            known: None,
             find,
             more: false,
             tickets: 0,
@@ -119,7 +114,7 @@ fn turn(words: &mut [u32], memory: TreeMemory, goals: &[u32], bound: CostBound) 
 }
 
 // The cheapest closed goal, unless the closed count is the remembered one.
-fn look_up(words: &[u32], slot: usize, goals: &[u32], known: KnownLen) -> Solution
+fn look_up(words: &[u32], slot: usize, goals: &[u32], known: Option<u32>) -> Option<u32>
     requires { CanTurn words.now slot goals.now }
     ensures { LooksUp words.now slot goals.now known result }
 {
@@ -127,29 +122,35 @@ fn look_up(words: &[u32], slot: usize, goals: &[u32], known: KnownLen) -> Soluti
     look_up_in(words, slot_words(words, slot), edges, goals, known)
 }
 
-fn look_up_in(words: &[u32], tree: &[u32], edges: usize, goals: &[u32], known: KnownLen) -> Solution
+fn look_up_in(
+    words: &[u32],
+    tree: &[u32],
+    edges: usize,
+    goals: &[u32],
+    known: Option<u32>,
+) -> Option<u32>
     requires { CanLookUp edges tree.now goals.now }
     ensures { looks_up (read_cache words.now).domain words.now edges tree.now goals.now known result }
 {
     if is_known(tree, edges, known) {
-        return Solution::Unsolved;
+        return None;
     }
     cheapest_goal(words, tree, edges, goals)
 }
 
 // Whether the closed count is the remembered one. Where none is remembered nothing is counted.
-fn is_known(tree: &[u32], edges: usize, known: KnownLen) -> bool
+fn is_known(tree: &[u32], edges: usize, known: Option<u32>) -> bool
     requires { Formed edges tree.now }
     ensures { KnownIs edges tree.now known result }
 {
     match known {
-        KnownLen::Never => false,
-        KnownLen::Len(k) => closed_keys_len(tree, edges) == k,
+        None => false,
+        Some(k) => closed_keys_len(tree, edges) == k,
     }
 }
 
 // At most ten tickets; then the closed count is remembered.
-fn grow_tree(words: &mut [u32], slot: usize, goals: &[u32], bound: CostBound) -> Outcome
+fn grow_tree(words: &mut [u32], slot: usize, goals: &[u32], bound: Option<u64>) -> Outcome
     requires { InUse words.old slot }
     ensures { Turns words.old slot (grown (growth_of words.old slot goals.now bound) bound) result words.new }
 {
@@ -158,23 +159,22 @@ fn grow_tree(words: &mut [u32], slot: usize, goals: &[u32], bound: CostBound) ->
 }
 
 // The closed count is remembered, and a queue with a ticket under the bound keeps the search unfinished.
-fn remember(words: &[u32], slot: usize, growth: Grown, bound: CostBound) -> Outcome
+fn remember(words: &[u32], slot: usize, growth: Grown, bound: Option<u64>) -> Outcome
     requires { InUse words.now slot }
     ensures { Remembers (tree_at words.now slot) growth bound result }
 {
     let edges = layout::header(words, layout::EDGES);
     let tree = slot_words(words, slot);
-    let find = growth.solution;
     Outcome {
-        known: KnownLen::Len(closed_keys_len(tree, edges)),
-        find,
+        known: Some(closed_keys_len(tree, edges)),
+        find: growth.solution,
         more: has_ticket_under(tree, edges, bound),
         tickets: growth.tickets,
     }
 }
 
 // Whether the first ticket costs less than the bound; with no bound, whether there is one.
-fn has_ticket_under(tree: &[u32], edges: usize, bound: CostBound) -> bool
+fn has_ticket_under(tree: &[u32], edges: usize, bound: Option<u64>) -> bool
     requires { Formed edges tree.now }
     ensures { UnderIs edges tree.now bound result }
 {
@@ -186,40 +186,34 @@ fn has_ticket_under(tree: &[u32], edges: usize, bound: CostBound) -> bool
 }
 
 // A find replaces the entry's solution unless dearer, and is the best only if strictly cheaper.
-fn judge(words: &[u32], memory: TreeMemory, find: Solution, bound: CostBound) -> Found
+fn judge(words: &[u32], memory: TreeMemory, find: Option<u32>, bound: Option<u64>) -> Option<Find>
     requires { CanRecord words.now memory find }
     ensures { result ≡ found_of words.now memory find bound }
 {
-    let Solution::At(node) = find else {
-        return Found::Nothing;
-    };
-    let held = memory.solution;
+    let node = find?;
     let cost = solution_cost(words, memory.tree as usize, node);
-    if is_dearer(words, memory.tree as usize, cost, held) {
-        return Found::Nothing;
+    if is_dearer(words, memory.tree as usize, cost, memory.solution) {
+        return None;
     }
-    Found::Replaces {
+    Some(Find {
         node,
         is_best: is_cheaper(cost, bound),
-    }
+    })
 }
 
 // Whether a solution is held that costs less.
-fn is_dearer(words: &[u32], slot: usize, cost: u64, held: Solution) -> bool
+fn is_dearer(words: &[u32], slot: usize, cost: u64, held: Option<u32>) -> bool
     requires { CanCompare words.now slot held }
     ensures { result ≡ dearer_in (read_cache words.now).domain (tree_at words.now slot).nodes cost held }
 {
     match held {
-        Solution::Unsolved => false,
-        Solution::At(node) => solution_cost(words, slot, node) < cost,
+        None => false,
+        Some(node) => solution_cost(words, slot, node) < cost,
     }
 }
 
-fn is_cheaper(cost: u64, bound: CostBound) -> bool
+fn is_cheaper(cost: u64, bound: Option<u64>) -> bool
     ensures { result ≡ cheaper cost bound }
 {
-    match bound {
-        CostBound::Unbounded => true,
-        CostBound::Bound(b) => cost < b,
-    }
+    bound.is_none_or(|b| cost < b)
 }

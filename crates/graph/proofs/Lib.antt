@@ -1,6 +1,5 @@
 -- Laws that belong to no one function.
 pub mod Buckets
-pub mod Filled
 pub mod Gathers
 pub mod Index
 pub mod Keys
@@ -9,6 +8,7 @@ pub mod LineWords
 pub mod Lines
 pub mod Ordered
 pub mod Parts
+pub mod Tables
 pub mod Tallies
 pub mod Written
 pub mod Choices

@@ -6,6 +6,8 @@ use Prim.Native.Nat.{ℕ, suc, ◌+◌, ◌<◌, ◌≤◌}
 use native.Mathlib.Omega.{arith}
 use lib.ListN.{length, set, take, drop, length-append, length-map}
 use lib.Seq.{set_comm, sets, sets-eq}
+use Rattle.std.specs.Prelude.{Some, None}
+use Rattle.std.specs.declared.option.Option.{Option}
 use Rattle.model.specs.Answers.{answered}
 use Rattle.model.specs.Graph.{Edge, Graph, Direction, forward, backward, domain}
 use Rattle.text.specs.declared.counts.Counts.{Counts}
@@ -50,26 +52,26 @@ stored ws i us vs n e h =
 
 -- ---- line by line
 
-pub lines-length : (dir : Direction) (m : ℕ) (k : Counts) (xs : List Line) (ws : List ℕ) → length (lines_written dir m k xs ws) ≡ length ws
+pub lines-length : (dir : Direction) (m : ℕ) (k : Counts) (xs : List (Option Line)) (ws : List ℕ) → length (lines_written dir m k xs ws) ≡ length ws
 unfolding lines_written
 lines-length dir m k [] ws = refl
 lines-length dir m k (x ∷ xs) ws = lines-length dir m (counted k x) xs (line_written dir m k x ws) ∙ line-length dir m k x ws
 
 -- where k counts the lines above xs and z all lines
-pub lines-written : (dir : Direction) (n : ℕ) (k z : Counts) (xs : List Line) (ws : List ℕ) → judge_from n k xs ≡ answered z
+pub lines-written : (dir : Direction) (n : ℕ) (k z : Counts) (xs : List (Option Line)) (ws : List ℕ) → judge_from n k xs ≡ answered z
     → lines_written dir z.vertices k xs ws
     ≡ sets (sets ws (initial_at + k.vertices) (initials_of xs)) (edge_at z.vertices k.edges) (edge_words (map (held dir) (edges_of xs)))
 unfolding lines_written initials_of edges_of
 lines-written dir n k z [] ws e = refl
-lines-written dir n k z (line.Illegal ∷ xs) ws e = lines-written dir (n + 1) k z xs ws (passes-rest n k line.Illegal xs e)
-lines-written dir n k z (line.Vertex v c ∷ xs) ws e =
-    let x : Line = line.Vertex v c in
+lines-written dir n k z (None ∷ xs) ws e = lines-written dir (n + 1) k z xs ws (passes-rest n k None xs e)
+lines-written dir n k z (Some (line.Vertex v c) ∷ xs) ws e =
+    let x : Option Line = Some (line.Vertex v c) in
     let words : List ℕ = edge_words (map (held dir) (edges_of xs)) in
     let more : List ℕ = set ws (initial_at + k.vertices) (initial_word c) in
     lines-written dir (n + 1) (counted k x) z xs more (passes-rest n k x xs e)
     ∙ ap (λ (i : ℕ). sets (sets more i (initials_of xs)) (edge_at z.vertices k.edges) words) (omega arith)
-lines-written dir n k z (line.Edge a b c ∷ xs) ws e =
-    let x : Line = line.Edge a b c in
+lines-written dir n k z (Some (line.Edge a b c) ∷ xs) ws e =
+    let x : Option Line = Some (line.Edge a b c) in
     let words : List ℕ = edge_words (map (held dir) (edges_of xs)) in
     let own : List ℕ = edge_words (held dir (record { from = a; to = b; cost = c }) ∷ []) in
     let place : ℕ = edge_at z.vertices k.edges in

@@ -2,12 +2,12 @@
 -- cost 9) wait.
 -- Assumes nothing.
 use mathlib.Core.Path.{◌≡◌, refl, sym, ap, ◌∙◌}
+use Rattle.std.specs.Prelude.{None, Some}
 use mathlib.Core.Logic.{inl}
 use mathlib.Core.List.{List, [], ◌∷◌}
 use Prim.Native.Nat.{ℕ, ◌<◌}
 use native.Mathlib.Omega.{arith}
 use lib.ListN.{length}
-use Rattle.model.specs.declared.CostBound.TheVariants.{Unbounded, Bound}
 use Rattle.model.specs.Worth.{evaluation_of}
 use Rattle.model.specs.Tree.{Tree, Growth, Going, found, over, grow}
 use Rattle.model.specs.Sound.{tree}
@@ -26,29 +26,29 @@ abbrev told : Growth → ℕ × (ℕ × Going)
 told g = (g.tickets, (length g.tree.nodes, g.going))
 
 -- the last ticket is for a closed vertex
-to_the_end : told (growth_of sample 0 [] Unbounded) ≡ (3, (4, over))
+to_the_end : told (growth_of sample 0 [] None) ≡ (3, (4, over))
 unfolding sample read_cache vertex_in grow evaluation_of
 to_the_end = refl
 
 -- "a wanted motif is a find and stops"
-goal-found : told (growth_of sample 0 (2 ∷ []) Unbounded) ≡ (2, (4, found 3))
+goal-found : told (growth_of sample 0 (2 ∷ []) None) ≡ (2, (4, found 3))
 unfolding sample read_cache vertex_in grow evaluation_of
 goal-found = refl
 
 -- "then a cost above the bound stops": its edges are queued before
-above-bound : told (growth_of sample 0 [] (Bound 3)) ≡ (1, (4, over))
+above-bound : told (growth_of sample 0 [] (Some 3)) ≡ (1, (4, over))
 unfolding sample read_cache vertex_in grow evaluation_of
 above-bound = refl
 
 -- a cost at the bound does not stop
-at_bound : told (growth_of sample 0 [] (Bound 4)) ≡ (2, (4, over))
+at_bound : told (growth_of sample 0 [] (Some 4)) ≡ (2, (4, over))
 unfolding sample read_cache vertex_in grow evaluation_of
 at_bound = refl
 
 -- ---- what the promise shuts out
 
 -- a program that tests the bound before it queues the edges: it would leave three nodes
-edges-before-bound : (r : Grown) (left : List ℕ) → Grew sample 0 [] (Bound 3) r left
+edges-before-bound : (r : Grown) (left : List ℕ) → Grew sample 0 [] (Some 3) r left
     → (r.tickets ≡ 1) × (used_in (slot_words (vertices_in left) (edges_in left) 0 left) ≡ 4)
 unfolding sample read_cache vertex_in grow evaluation_of
 edges-before-bound r left g =

@@ -1,17 +1,17 @@
 -- Whether the growing goes on.
 -- Assumes nothing.
 use mathlib.Core.Path.{◌≡◌, sym, ap, ap₂, ◌∙◌}
+use Rattle.std.specs.declared.option.Option.{Option}
 use mathlib.Core.Bool.{Bool, true, false}
 use mathlib.Core.List.{List}
 use Prim.Native.Nat.{ℕ}
-use Rattle.model.specs.declared.CostBound.{CostBound}
 use Rattle.model.specs.Lists.{mem}
 use Rattle.model.specs.Tree.{above, going_on}
 use Rattle.grow.specs.declared.Next.TheVariants.{On, Found, Over}
 use Rattle.grow.specs.Grow.{GoesOn}
 
 -- what was found of the vertex, and of its cost
-module _ (gs : List ℕ) (b : CostBound) (v k : ℕ) {goal : Bool} (g : goal ≡ mem v gs) where
+module _ (gs : List ℕ) (b : Option ℕ) (v k : ℕ) {goal : Bool} (g : goal ≡ mem v gs) where
   pub goes-found : goal ≡ true → GoesOn gs b v k Found
   goes-found t n = ap (λ (x : Bool). going_on x (above k b) n) (sym t ∙ g)
 

@@ -1,14 +1,13 @@
 -- The loop of `grow`: what is known at each turn, after a ticket, and at the end.
 -- Assumes nothing.
 use mathlib.Core.Path.{◌≡◌, refl, sym, ap, ◌∙◌, subst}
-use mathlib.Core.Option.{none, some}
+use Rattle.std.specs.declared.option.Option.{Option}
+use Rattle.std.specs.Prelude.{None, Some}
 use mathlib.Core.List.{List}
 use Prim.Native.Nat.{ℕ, suc, ◌+◌, ◌-◌, ◌<◌, ◌≤◌}
 use native.Mathlib.Omega.{arith}
 use borrow.Rule.Slice.PartMut.{put_mid, mid_of, put_same}
 use lib.ListN.{length, set, length-set}
-use Rattle.model.specs.declared.CostBound.{CostBound}
-use Rattle.model.specs.declared.Solution.TheVariants.{Unsolved, At}
 use Rattle.model.specs.Graph.{Domain}
 use Rattle.model.specs.Tree.{Tree, Going, on, least, popped, ticket, grow}
 use Rattle.model.specs.Sound.{Sound}
@@ -19,8 +18,6 @@ use Rattle.layout.specs.Read.{read_cache}
 use Rattle.layout.proofs.Trees.{tree-nodes}
 use Rattle.layout.specs.declared.slots.Slot.{Slot}
 use Rattle.layout.specs.Slots.{slot_of, tree_at, domain_at}
-use Rattle.queue.specs.declared.Popped.{Popped}
-use Rattle.queue.specs.declared.Popped.TheVariants.{Ticket, Empty}
 use Rattle.tree.specs.Tree.{tree_of, Formed, Pops, PopIs}
 use Rattle.sound.proofs.Slots.{tree-in-at}
 use Rattle.sound.specs.Facts.{InUse, Ready}
@@ -35,7 +32,7 @@ use Rattle.grow.proofs.Kept.{kept}
 
 -- ---- the end: the slot holds the tree of the model's growth
 
-module _ {ws : List ℕ} {i : ℕ} (gs : List ℕ) (b : CostBound) (can : InUse ws i) where
+module _ {ws : List ℕ} {i : ℕ} (gs : List ℕ) (b : Option ℕ) (can : InUse ws i) where
   growth-is : growth_of ws i gs b ≡ grow (domain_at (slot_of ws i) ws) gs b 10 (record { tree = tree_at (slot_of ws i) ws; tickets = 0; going = on })
   unfolding read_cache
   growth-is =
@@ -60,7 +57,7 @@ module _ {ws : List ℕ} {i : ℕ} (gs : List ℕ) (b : CostBound) (can : InUse 
 -- ---- at each turn
 
 -- the model's growth is what growing by the tickets left comes to, from the tree that the slot holds
-pub record Growing (ws : List ℕ) (i : ℕ) (gs : List ℕ) (b : CostBound) (s : Slot) (words : List ℕ) (left tickets : ℕ) : Type 0 where
+pub record Growing (ws : List ℕ) (i : ℕ) (gs : List ℕ) (b : Option ℕ) (s : Slot) (words : List ℕ) (left tickets : ℕ) : Type 0 where
   pub can : InUse ws i
   pub slot : s ≡ slot_of ws i
   pub ready : Ready s words
@@ -69,7 +66,7 @@ pub record Growing (ws : List ℕ) (i : ℕ) (gs : List ℕ) (b : CostBound) (s 
   pub count : left + tickets ≡ 10
   pub grows : growth_of ws i gs b ≡ grow (domain_at s ws) gs b left (record { tree = tree_at s words; tickets = tickets; going = on })
 
-pub growing-none : {ws : List ℕ} {i : ℕ} (gs : List ℕ) (b : CostBound) {s : Slot} → InUse ws i → s ≡ slot_of ws i → Growing ws i gs b s ws 10 0
+pub growing-none : {ws : List ℕ} {i : ℕ} (gs : List ℕ) (b : Option ℕ) {s : Slot} → InUse ws i → s ≡ slot_of ws i → Growing ws i gs b s ws 10 0
 growing-none {ws} {i} gs b {s} can e =
     subst (λ (x : Slot). Growing ws i gs b x ws 10 0) (sym e) (record {
       can = can;
@@ -81,7 +78,7 @@ growing-none {ws} {i} gs b {s} can e =
       grows = growth-is gs b can;
     })
 
-module _ {ws : List ℕ} {i : ℕ} {gs : List ℕ} {b : CostBound} {s : Slot} {words : List ℕ} {left tickets : ℕ} (g : Growing ws i gs b s words left tickets) where
+module _ {ws : List ℕ} {i : ℕ} {gs : List ℕ} {b : Option ℕ} {s : Slot} {words : List ℕ} {left tickets : ℕ} (g : Growing ws i gs b s words left tickets) where
   abbrev t : Tree
   t = tree_at s words
 
@@ -97,7 +94,7 @@ module _ {ws : List ℕ} {i : ℕ} {gs : List ℕ} {b : CostBound} {s : Slot} {w
       → Grew ws i gs b (record { tickets = k; solution = find_of z }) after
   finished {after} {k} {z} {u} e h = grew gs b g.can e (subst (λ (x : Slot). SlotHolds x ws after u) g.slot h)
 
-  pub growing-all : left ≤ 0 → Grew ws i gs b (record { tickets = tickets; solution = Unsolved }) words
+  pub growing-all : left ≤ 0 → Grew ws i gs b (record { tickets = tickets; solution = None }) words
   unfolding grow
   growing-all h = let e : left ≡ 0 = omega arith in finished (rw e at g.grows) g.holds
 
@@ -118,11 +115,11 @@ module _ {ws : List ℕ} {i : ℕ} {gs : List ℕ} {b : CostBound} {s : Slot} {w
         subst (λ (n : ℕ). growth_of ws i gs b ≡ grow d gs b n (record { tree = t; tickets = tickets; going = on })) e g.grows
 
     -- no ticket was left
-    pub growing-dry : {r : Popped} → PopIs s.edges lent ys r → r ≡ Empty
-        → Grew ws i gs b (record { tickets = tickets; solution = Unsolved }) mid
+    pub growing-dry : {r : Option (ℕ × ℕ)} → PopIs s.edges lent ys r → r ≡ None
+        → Grew ws i gs b (record { tickets = tickets; solution = None }) mid
     growing-dry p e =
-        let q : PopIs s.edges lent ys Empty = rw e at p in
-        let none_left : least t.nodes t.waiting ≡ none = subst (λ (x : Tree). least x.nodes x.waiting ≡ none) (tree_lent g.ready) (q.0 words) in
+        let q : PopIs s.edges lent ys None = rw e at p in
+        let none_left : least t.nodes t.waiting ≡ None = subst (λ (x : Tree). least x.nodes x.waiting ≡ None) (tree_lent g.ready) (q.0 words) in
         rw (q.1, put_same s.at (s.end - s.at) words)
         (finished (next-is ∙ ap (grow d gs b (left - 1)) (ticket-none d gs b t tickets none_left) ∙ grow-over d gs b (left - 1) t tickets) g.holds)
 
@@ -130,7 +127,7 @@ module _ {ws : List ℕ} {i : ℕ} {gs : List ℕ} {b : CostBound} {s : Slot} {w
     pub can_store : queued_at < length (mid_of s.at (s.end - s.at) mid)
     can_store = rw (lent_again g.ready ys same) (omega (arith, part-size g.ready ys same))
 
-    module _ {k m : ℕ} {r : Popped} (p : PopIs s.edges lent ys r) (e : r ≡ Ticket k m)
+    module _ {k m : ℕ} {r : Option (ℕ × ℕ)} (p : PopIs s.edges lent ys r) (e : r ≡ Some (k, m))
         {zs : List ℕ} (put : zs ≡ set (mid_of s.at (s.end - s.at) mid) queued_at m) where
       -- the tree's words, and all words, with the length stored
       abbrev us : List ℕ
@@ -140,10 +137,10 @@ module _ {ws : List ℕ} {i : ℕ} {gs : List ℕ} {b : CostBound} {s : Slot} {w
       stored = put_mid s.at (s.end - s.at) mid zs
 
       pops : Pops s.edges lent us k m
-      pops = let q : PopIs s.edges lent ys (Ticket k m) = rw e at p in q.1
+      pops = let q : PopIs s.edges lent ys (Some (k, m)) = rw e at p in q.1
 
-      least-is : least t.nodes t.waiting ≡ some k
-      least-is = subst (λ (x : Tree). least x.nodes x.waiting ≡ some k) (tree_lent g.ready) (pops.first words)
+      least-is : least t.nodes t.waiting ≡ Some k
+      least-is = subst (λ (x : Tree). least x.nodes x.waiting ≡ Some k) (tree_lent g.ready) (pops.first words)
 
       left-tree : tree_of words s.edges us ≡ popped t k
       left-tree = pops.tree words ∙ ap (λ (x : Tree). popped x k) (tree_lent g.ready)
@@ -192,8 +189,8 @@ module _ {ws : List ℕ} {i : ℕ} {gs : List ℕ} {b : CostBound} {s : Slot} {w
               grows = rw o at now;
             }
 
-        pub growing-found : v ≡ next.Found → Grew ws i gs b (record { tickets = tickets + 1; solution = At k }) after
+        pub growing-found : v ≡ next.Found → Grew ws i gs b (record { tickets = tickets + 1; solution = Some k }) after
         growing-found o = finished ((rw o at now) ∙ grow-found d gs b (left - 1) (tree_at s after) (tickets + 1) k) holds-now
 
-        pub growing-over : v ≡ next.Over → Grew ws i gs b (record { tickets = tickets + 1; solution = Unsolved }) after
+        pub growing-over : v ≡ next.Over → Grew ws i gs b (record { tickets = tickets + 1; solution = None }) after
         growing-over o = finished ((rw o at now) ∙ grow-over d gs b (left - 1) (tree_at s after) (tickets + 1)) holds-now

@@ -9,7 +9,7 @@ use lib.Seq.{take_all, get_or-take}
 use borrow.Rule.Slice.PartMut.{mid_of, mid_len}
 use Rattle.model.specs.Graph.{Domain, choices, edge_numbers, vertex_count}
 use Rattle.model.specs.Tree.{Tree, Node, push_node, child, push_all}
-use Rattle.layout.specs.Layout.{place_in, Sized, places_at, numbers_at, slots_at, used_in}
+use Rattle.layout.specs.Layout.{place_in, numbers_at, slots_at, used_in}
 use Rattle.layout.specs.Words.{first_place}
 use Rattle.layout.proofs.Edges.{edge-count-in, vertex-count-in}
 use Rattle.layout.proofs.Places.{word-behind}
@@ -19,7 +19,7 @@ use Rattle.layout.specs.Slots.{words_in, tree_at, domain_at}
 use Rattle.queue.specs.Queue.{figures}
 use Rattle.edges.specs.Edges.{next_at}
 use Rattle.edges.specs.declared.Placed.{Placed}
-use Rattle.edges.specs.declared.NextEdge.TheVariants.{Edge, End}
+use Rattle.std.specs.Prelude.{Some, None}
 use Rattle.edges.proofs.Found.{Found, edge-found, end-found}
 use Rattle.sound.specs.Facts.{Ready}
 use Rattle.grow.specs.Grow.{SlotHolds, CanPushChoice, CanPushChoices}
@@ -39,10 +39,6 @@ pub record Pushing (s : Slot) (ws : List ℕ) (n v k first last : ℕ) (left : L
   pub holds : SlotHolds s ws left (push_all (domain_at s ws) n (figures k) (tree_at s ws) (take (place - first) (choices (domain_at s ws) v)))
 
 module _ {s : Slot} {ws : List ℕ} {v k : ℕ} (h : CanPushChoices s ws v k) where
-  -- the first places of v and of the vertex after it
-  pub can-find : (i : ℕ) → i ≤ v + 1 → Sized s.vertices s.edges × (places_at s.vertices s.edges + i < length ws)
-  can-find i b = (h.ready.held.sized, omega (arith, h.vertex, h.ready.held.fits))
-
   module _ {w x first last : ℕ} (n : ℕ) (e : w ≡ v) (a : first ≡ place_in s.vertices s.edges ws w)
       (f : x ≡ v) (b : last ≡ place_in s.vertices s.edges ws (x + 1)) where
     starts-at : first ≡ first_place (domain_at s ws) v
@@ -93,14 +89,14 @@ module _ {s : Slot} {ws left : List ℕ} {n v k first last place : ℕ} (i : Pus
   last_fits = omega (arith, i.starts, i.ends, places-fit d v vertex-in i.can.ready.held.accepted, edge-count-in s.vertices s.edges ws)
 
   module _ {r : Placed} (said : r ≡ next_at ns place last) where
-    pub pushing-end : r.edge ≡ End → SlotHolds s ws left (push_all d n (figures k) (tree_at s ws) (choices d v))
+    pub pushing-end : r.edge ≡ None → SlotHolds s ws left (push_all d n (figures k) (tree_at s ws) (choices d v))
     pushing-end is =
         let stop : last ≤ place = end-found ns place last said (omega (arith, numbers-count, last_fits)) is in
         subst (λ (cs : List ℕ). SlotHolds s ws left (push_all d n (figures k) (tree_at s ws) cs))
         (take_all (place - first) (choices d v) (omega (arith, i.ends, i.within)))
         i.holds
 
-    module _ {e : ℕ} (is : r.edge ≡ Edge e) where
+    module _ {e : ℕ} (is : r.edge ≡ Some e) where
       abbrev after : ℕ
       after = r.place
 
@@ -124,9 +120,6 @@ module _ {s : Slot} {ws left : List ℕ} {n v k first last place : ℕ} (i : Pus
             cost = i.can.cost;
             room = omega (arith, found.before, i.can.room, i.used, i.above, i.ends);
           }
-
-      pub fewer-left : last - after < last - place
-      fewer-left = omega (arith, found.before, found.after)
 
       abbrev j : ℕ
       j = place - first

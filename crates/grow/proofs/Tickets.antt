@@ -1,25 +1,25 @@
 -- One ticket of the model, in the code's terms, and when growing stands still.
 -- Assumes nothing.
 use mathlib.Core.Path.{◌≡◌, refl, subst}
+use Rattle.std.specs.declared.option.Option.{Option}
+use Rattle.std.specs.Prelude.{None, Some}
 use mathlib.Core.Bool.{Bool, true, false}
-use mathlib.Core.Option.{none, some}
 use mathlib.Core.List.{List}
 use Prim.Native.Nat.{ℕ, zero, suc}
-use Rattle.model.specs.declared.CostBound.{CostBound}
 use Rattle.model.specs.Graph.{Domain, Accepted}
 use Rattle.model.specs.Tree.{Tree, Growth, on, found, over, least, popped, taken, ticket, grow}
 use Rattle.model.specs.Sound.{Sound}
 use Rattle.model.proofs.Later.{Grew, grown}
 use Rattle.grow.specs.Grow.{is_closed, visited_if, going_if}
 
-module _ (d : Domain) (gs : List ℕ) (b : CostBound) where
+module _ (d : Domain) (gs : List ℕ) (b : Option ℕ) where
   -- after a ticket for node n
   abbrev pub stepped : Tree → ℕ → ℕ → Growth
   stepped t k n =
       let u = popped t n in
       record { tree = visited_if (is_closed u n) d u n; tickets = suc k; going = going_if (is_closed u n) gs b u n }
 
-  pub ticket_is : (t : Tree) (k n : ℕ) → least t.nodes t.waiting ≡ some n → ticket d gs b t k on ≡ stepped t k n
+  pub ticket_is : (t : Tree) (k n : ℕ) → least t.nodes t.waiting ≡ Some n → ticket d gs b t k on ≡ stepped t k n
   unfolding ticket popped
   ticket_is t k n e = rw e (go (is_closed t n))
     where
@@ -27,7 +27,7 @@ module _ (d : Domain) (gs : List ℕ) (b : CostBound) where
       go true = refl
       go false = refl
 
-  pub ticket-none : (t : Tree) (k : ℕ) → least t.nodes t.waiting ≡ none → ticket d gs b t k on ≡ record { tree = t; tickets = k; going = over }
+  pub ticket-none : (t : Tree) (k : ℕ) → least t.nodes t.waiting ≡ None → ticket d gs b t k on ≡ record { tree = t; tickets = k; going = over }
   unfolding ticket
   ticket-none t k e = rw e refl
 
@@ -41,6 +41,6 @@ module _ (d : Domain) (gs : List ℕ) (b : CostBound) where
   grow-found zero t k n = refl
   grow-found (suc j) t k n = grow-found j t k n
 
-  pub ticket-sound : Accepted d.graph → (t : Tree) (k n : ℕ) → Sound d t → least t.nodes t.waiting ≡ some n → Sound d (stepped t k n).tree
+  pub ticket-sound : Accepted d.graph → (t : Tree) (k n : ℕ) → Sound d t → least t.nodes t.waiting ≡ Some n → Sound d (stepped t k n).tree
   unfolding grow
   ticket-sound acc t k n ok e = let one : Grew d gs t (stepped t 0 n) = subst (Grew d gs t) (ticket_is t 0 n e) (grown d acc gs b t ok 1) in one.sound

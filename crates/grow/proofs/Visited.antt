@@ -1,6 +1,7 @@
 -- Visiting a node: its vertex is closed already, or the node closes it and its edges are queued.
 -- Assumes nothing.
 use mathlib.Core.Path.{◌≡◌, sym, ap, ap₂, ◌∙◌, subst}
+use Rattle.std.specs.declared.option.Option.{Option}
 use mathlib.Core.Bool.{Bool, true, false, not}
 use mathlib.Core.List.{List}
 use Prim.Native.Nat.{ℕ, ◌-◌}
@@ -8,7 +9,6 @@ use native.Mathlib.Omega.{arith}
 use lib.ListN.{length}
 use borrow.Author.Tests.{eq-eqb, ne_eqb}
 use borrow.Rule.Slice.PartMut.{put_mid, mid_of, put_same}
-use Rattle.model.specs.declared.CostBound.{CostBound}
 use Rattle.model.specs.Lists.{mem}
 use Rattle.model.specs.Graph.{Domain, choices}
 use Rattle.model.specs.Tree.{Node, Tree, node, closed_at, evaluation_of, close, push_all, expanded, above, going_on}
@@ -55,84 +55,83 @@ module _ {s : Slot} {ws : List ℕ} {n : ℕ} (h : CanVisit s ws n) where
     vertex-is : v ≡ it.vertex
     vertex-is = read ∙ ap₂ (λ (x : List ℕ) (k : ℕ). vertex_in ws x k) (ready_words h.ready e) at ∙ sym (ap (λ (x : Node). x.vertex) node-words)
 
-    module _ {w : ℕ} (wide : w ≡ v) where
-      pub can-close : CanClose s.edges lent w n
-      can-close = subst (λ (t : List ℕ). CanClose s.edges t w n) (sym part) (record {
-        formed = h.ready.formed;
-        vertex = omega (arith, ready-length h.ready, h.vertex, vertex-is);
-        node = h.used;
-      })
+    pub can-close : CanClose s.edges lent v n
+    can-close = subst (λ (t : List ℕ). CanClose s.edges t v n) (sym part) (record {
+      formed = h.ready.formed;
+      vertex = omega (arith, ready-length h.ready, h.vertex, vertex-is);
+      node = h.used;
+    })
 
-      word-is : closed_word_in s.edges lent w ≡ closed_at tree.closed it.vertex
-      word-is =
-          sym (tree-word ws s.edges lent w can-close.vertex)
-          ∙ ap₂ (λ (t : Tree) (x : ℕ). closed_at t.closed x) (tree_lent h.ready) (wide ∙ vertex-is)
+    word-is : closed_word_in s.edges lent v ≡ closed_at tree.closed it.vertex
+    word-is =
+        sym (tree-word ws s.edges lent v can-close.vertex)
+        ∙ ap₂ (λ (t : Tree) (x : ℕ). closed_at t.closed x) (tree_lent h.ready) vertex-is
 
-      -- ys: the words that came back
-      module _ (ys : List ℕ) (r : CloseResult) (closing : CloseIs s.edges lent ys w n r) where
-        abbrev back : List ℕ
-        back = put_mid s.at (s.end - s.at) ws ys
+    -- ys: the words that came back
+    module _ (ys : List ℕ) (r : CloseResult) (closing : CloseIs s.edges lent ys v n r) where
+      abbrev back : List ℕ
+      back = put_mid s.at (s.end - s.at) ws ys
 
-        pub visit-closed : r ≡ Rejected → (gs : List ℕ) (b : CostBound) → Visits s ws back n gs b On
-        visit-closed rejected gs b =
-            let c : CloseIs s.edges lent ys w n Rejected = rw rejected at closing in
-            let same : back ≡ ws = ap (put_mid s.at (s.end - s.at) ws) c.1 ∙ put_same s.at (s.end - s.at) ws in
-            let is : is_closed tree n ≡ true = ap not (ne_eqb (closed_at tree.closed it.vertex) 0 (omega (arith, c.0, word-is))) in
-            subst (λ (left : List ℕ). Visits s ws left n gs b On) (sym same) (record {
-              holds = subst (λ (x : Bool). SlotHolds s ws ws (visited_if x (domain_at s ws) tree n)) (sym is) (holds-refl h.ready);
-              going = sym (ap (λ (x : Bool). going_if x gs b tree n) is);
-            })
+      pub visit-closed : r ≡ Rejected → (gs : List ℕ) (b : Option ℕ) → Visits s ws back n gs b On
+      visit-closed rejected gs b =
+          let c : CloseIs s.edges lent ys v n Rejected = rw rejected at closing in
+          let same : back ≡ ws = ap (put_mid s.at (s.end - s.at) ws) c.1 ∙ put_same s.at (s.end - s.at) ws in
+          let is : is_closed tree n ≡ true = ap not (ne_eqb (closed_at tree.closed it.vertex) 0 (omega (arith, c.0, word-is))) in
+          subst (λ (left : List ℕ). Visits s ws left n gs b On) (sym same) (record {
+            holds = subst (λ (x : Bool). SlotHolds s ws ws (visited_if x (domain_at s ws) tree n)) (sym is) (holds-refl h.ready);
+            going = sym (ap (λ (x : Bool). going_if x gs b tree n) is);
+          })
 
-        -- k: the cost read of the slot's words
-        module _ (accepted : r ≡ Accepted) (len : length ys ≡ length lent) {j k : ℕ} (again : j ≡ n) (reads : k ≡ cost_in t j) where
-          cost-is : k ≡ it.cost
-          cost-is = reads ∙ ap₂ (λ (x : List ℕ) (i : ℕ). cost_in x i) (ready_words h.ready e) again ∙ sym (ap (λ (x : Node). x.cost) node-words)
+      -- k: the cost read of the slot's words
+      module _ (accepted : r ≡ Accepted) (len : length ys ≡ length lent) {j k : ℕ} (again : j ≡ n) (reads : k ≡ cost_in t j) where
+        cost-is : k ≡ it.cost
+        cost-is = reads ∙ ap₂ (λ (x : List ℕ) (i : ℕ). cost_in x i) (ready_words h.ready e) again ∙ sym (ap (λ (x : Node). x.cost) node-words)
 
-          closes : Closes s.edges lent ys w n
-          closes = rw accepted at closing
+        closes : Closes s.edges lent ys v n
+        closes = rw accepted at closing
 
-          is_open : is_closed tree n ≡ false
-          is_open = ap not (eq-eqb (closed_at tree.closed it.vertex) 0 (sym word-is ∙ closes.before))
+        is_open : is_closed tree n ≡ false
+        is_open = ap not (eq-eqb (closed_at tree.closed it.vertex) 0 (sym word-is ∙ closes.before))
 
-          closed : SlotHolds s ws back (close tree it.vertex n)
-          closed =
-              put_holds h.ready ys len closes.formed
-              (closes.tree ws ∙ ap₂ (λ (t : Tree) (x : ℕ). close t x n) (tree_lent h.ready) (wide ∙ vertex-is))
+        closed : SlotHolds s ws back (close tree it.vertex n)
+        closed =
+            put_holds h.ready ys len closes.formed
+            (closes.tree ws ∙ ap₂ (λ (t : Tree) (x : ℕ). close t x n) (tree_lent h.ready) vertex-is)
 
-          domain : domain_at s back ≡ domain_at s ws
-          domain = domain-after h.ready closed
+        domain : domain_at s back ≡ domain_at s ws
+        domain = domain-after h.ready closed
 
-          used : used_in (words_in s back) ≡ used_in (words_in s ws)
-          unfolding close
-          used =
-              sym (tree-nodes back s.vertices s.edges (words_in s back))
-              ∙ ap (λ (t : Tree). length t.nodes) closed.tree
-              ∙ tree-nodes ws s.vertices s.edges (words_in s ws)
+        used : used_in (words_in s back) ≡ used_in (words_in s ws)
+        unfolding close
+        used =
+            sym (tree-nodes back s.vertices s.edges (words_in s back))
+            ∙ ap (λ (t : Tree). length t.nodes) closed.tree
+            ∙ tree-nodes ws s.vertices s.edges (words_in s ws)
 
-          pub can-push-choices : CanPushChoices s back v k
-          can-push-choices = record {
-            ready = ready-after h.ready closed;
-            vertex = omega (arith, h.vertex, vertex-is);
-            cost = omega (arith, h.cost, cost-is);
-            room = rw (used, domain, vertex-is) (h.room is_open);
-          }
+        pub can-push-choices : CanPushChoices s back v k
+        can-push-choices = record {
+          ready = ready-after h.ready closed;
+          vertex = omega (arith, h.vertex, vertex-is);
+          cost = omega (arith, h.cost, cost-is);
+          room = rw (used, domain, vertex-is) (h.room is_open);
+        }
 
-          -- m: the node's evaluation, from its cost
-          pub visit-open : (left : List ℕ) (gs : List ℕ) (b : CostBound) (g : Next) {m : ℕ}
-              → SlotHolds s back left (push_all (domain_at s back) n (figures k) (tree_at s back) (choices (domain_at s back) v)) → m ≡ evaluation_of (figures k) → GoesOn gs b v m g
-              → Visits s ws left n gs b g
-          unfolding expanded
-          visit-open left gs b g held weighs goes = record {
-            holds = subst (SlotHolds s ws left) grown (holds-trans closed held);
-            going =
-                goes n
-                ∙ ap₂ (λ (x y : ℕ). going_on (mem x gs) (above y b) n) vertex-is (weighs ∙ evaluation-same (figures k) it cost-is)
-                ∙ sym (ap (λ (x : Bool). going_if x gs b tree n) is_open);
-          }
-            where
-              grown : push_all (domain_at s back) n (figures k) (tree_at s back) (choices (domain_at s back) v) ≡ visited_if (is_closed tree n) (domain_at s ws) tree n
-              grown =
-                  ap₂ (λ (d : Domain) (t : Tree). push_all d n (figures k) t (choices d v)) domain closed.tree
-                  ∙ ap₂ (λ (x y : ℕ). push_all (domain_at s ws) n (figures x) (close tree it.vertex n) (choices (domain_at s ws) y)) cost-is vertex-is
-                  ∙ push-figures (domain_at s ws) n it (close tree it.vertex n) (choices (domain_at s ws) it.vertex)
-                  ∙ sym (ap (λ (x : Bool). visited_if x (domain_at s ws) tree n) is_open)
+        -- m: the node's evaluation, from its cost
+        pub visit-open : (left : List ℕ) (gs : List ℕ) (b : Option ℕ) (g : Next) {m : ℕ}
+            → SlotHolds s back left (push_all (domain_at s back) n (figures k) (tree_at s back) (choices (domain_at s back) v)) → m ≡ evaluation_of (figures k) → GoesOn gs b v m g
+            → Visits s ws left n gs b g
+        unfolding expanded
+        visit-open left gs b g held weighs goes = record {
+          holds = subst (SlotHolds s ws left) grown (holds-trans closed held);
+          going =
+              goes n
+              ∙ ap₂ (λ (x y : ℕ). going_on (mem x gs) (above y b) n) vertex-is (weighs ∙ evaluation-same (figures k) it cost-is)
+              ∙ sym (ap (λ (x : Bool). going_if x gs b tree n) is_open);
+        }
+          where
+            grown : push_all (domain_at s back) n (figures k) (tree_at s back) (choices (domain_at s back) v) ≡ visited_if (is_closed tree n) (domain_at s ws) tree n
+            grown =
+                ap₂ (λ (d : Domain) (t : Tree). push_all d n (figures k) t (choices d v)) domain closed.tree
+                ∙ ap₂ (λ (x y : ℕ). push_all (domain_at s ws) n (figures x) (close tree it.vertex n) (choices (domain_at s ws) y)) cost-is vertex-is
+                ∙ push-figures (domain_at s ws) n it (close tree it.vertex n) (choices (domain_at s ws) it.vertex)
+                ∙ sym (ap (λ (x : Bool). visited_if x (domain_at s ws) tree n) is_open)

@@ -1,7 +1,7 @@
 -- Growing a tree of a cache: what the code promises.
 -- Assumes nothing.
 use Rattle.std.specs.Prelude.{◌≡◌, ◌⊎◌, Bool, true, false, not, List, ℕ, ◌+◌, ◌<◌, ◌≤◌, eqb, length, get_or, set}
-use Rattle.model.specs.declared.CostBound.{CostBound}
+use Rattle.std.specs.declared.option.Option.{Option}
 use Rattle.model.specs.Lists.{mem}
 use Rattle.model.specs.Graph.{Domain, choices}
 use Rattle.model.specs.Tree.{Tree, node, closed_at, evaluation, expanded, Growth, Going, on, found, over, above, going_on, grow}
@@ -21,7 +21,7 @@ use Rattle.grow.specs.declared.Next.TheVariants as next
 -- ---- the promise of `grow`
 
 -- the model's growing of the tree in slot i
-abbrev pub growth_of : List ℕ → ℕ → List ℕ → CostBound → Growth
+abbrev pub growth_of : List ℕ → ℕ → List ℕ → Option ℕ → Growth
 growth_of ws i gs b =
     let c = read_cache ws in
     grow c.domain gs b 10 (record { tree = tree c.trees i; tickets = 0; going = on })
@@ -32,7 +32,7 @@ pub record Outside (m l i : ℕ) (ws left : List ℕ) : Type 0 where
   pub word : (j : ℕ) → (j < slot_at m l i) ⊎ (slot_at m l i + tree_words m l ≤ j) → get_or left j 0 ≡ get_or ws j 0
 
 -- tickets, find and the tree left are the model's; what is free is the arrangement of the tree's queue words
-pub record Grew (ws : List ℕ) (i : ℕ) (gs : List ℕ) (b : CostBound) (r : Grown) (left : List ℕ) : Type 0 where
+pub record Grew (ws : List ℕ) (i : ℕ) (gs : List ℕ) (b : Option ℕ) (r : Grown) (left : List ℕ) : Type 0 where
   pub tickets : r.tickets ≡ (growth_of ws i gs b).tickets
   pub solution : r.solution ≡ find_of (growth_of ws i gs b).going
   pub cache : read_cache left ≡ with_trees (read_cache ws) (set (read_cache ws).trees i (growth_of ws i gs b).tree)
@@ -79,7 +79,7 @@ abbrev pub visited_if : Bool → Domain → Tree → ℕ → Tree
 visited_if true d t n = t
 visited_if false d t n = expanded d t n
 
-abbrev pub going_if : Bool → List ℕ → CostBound → Tree → ℕ → Going
+abbrev pub going_if : Bool → List ℕ → Option ℕ → Tree → ℕ → Going
 going_if true gs b t n = on
 going_if false gs b t n = going_on (mem (node t.nodes n).vertex gs) (above (evaluation t.nodes n) b) n
 
@@ -90,9 +90,9 @@ going_of n next.Found = found n
 going_of n next.Over = over
 
 -- "a wanted motif is a find and stops; then a cost above the bound stops"
-abbrev pub GoesOn : List ℕ → CostBound → ℕ → ℕ → Next → Type 0
+abbrev pub GoesOn : List ℕ → Option ℕ → ℕ → ℕ → Next → Type 0
 GoesOn gs b v k r = (n : ℕ) → going_of n r ≡ going_on (mem v gs) (above k b) n
 
-pub record Visits (s : Slot) (ws left : List ℕ) (n : ℕ) (gs : List ℕ) (b : CostBound) (r : Next) : Type 0 where
+pub record Visits (s : Slot) (ws left : List ℕ) (n : ℕ) (gs : List ℕ) (b : Option ℕ) (r : Next) : Type 0 where
   pub holds : SlotHolds s ws left (visited_if (is_closed (tree_at s ws) n) (domain_at s ws) (tree_at s ws) n)
   pub going : going_of n r ≡ going_if (is_closed (tree_at s ws) n) gs b (tree_at s ws) n

@@ -5,18 +5,16 @@
 
 ghost use Rattle.std.specs.Prelude.{◌≡◌, ◌<◌};
 ghost use Rattle.model.specs.Graph.{choices};
-ghost use Rattle.model.specs.Tree.{push_all, push_node, child, above};
+ghost use Rattle.model.specs.Tree.{push_all, push_node, child};
 ghost use Rattle.layout.specs.Slots.{tree_at, domain_at};
 ghost use Rattle.sound.specs.Facts.{InUse};
 ghost use Rattle.queue.specs.Queue.{figures};
 ghost use Rattle.grow.specs.Grow.{Grew, SlotHolds, CanPushChoice, CanPushChoices, CanVisit, Visits, GoesOn};
 
-use edges::{NextEdge, next_edge};
+use edges::{Placed, next_edge};
+use layout::GraphSize;
 use layout::lists::contains;
 use layout::slots::{Slot, slot_of, slot_words};
-use layout::wide;
-use model::{CostBound, Solution};
-use queue::Popped;
 use tree::Node;
 use tree::partial_keyed_closed_set::{CloseResult, close};
 
@@ -27,7 +25,7 @@ const ITERATIONS_PER_STEP: usize = 10;
 #[derive(Clone, Copy)]
 pub struct Grown {
     pub tickets: usize,
-    pub solution: Solution,
+    pub solution: Option<u32>,
 }
 
 // Whether the growing goes on after a ticket.
@@ -39,19 +37,20 @@ pub enum Next {
 }
 
 // Takes at most ten tickets of the tree in a slot.
-pub fn grow(words: &mut [u32], slot: usize, goals: &[u32], bound: CostBound) -> Grown
+pub fn grow(words: &mut [u32], slot: usize, goals: &[u32], bound: Option<u64>) -> Grown
     requires { InUse words.old slot }
     ensures { Grew words.old slot goals.now bound result words.new }
 {
     let s = slot_of(words, slot);
     let Slot { at, end, .. } = s;
+    // A count that falls, as document 01 has it.
     let mut left = ITERATIONS_PER_STEP;
     let mut tickets: usize = 0;
     while 0 < left {
-        let Popped::Ticket(node, queued) = tree::pop(&mut words[at..end], s.edges) else {
+        let Some((node, queued)) = tree::pop(&mut words[at..end], s.edges) else {
             return Grown {
                 tickets,
-                solution: Solution::Unsolved,
+                solution: None,
             };
         };
         tree::set_queued(&mut words[at..end], queued);
@@ -62,33 +61,33 @@ pub fn grow(words: &mut [u32], slot: usize, goals: &[u32], bound: CostBound) -> 
             Next::Found => {
                 return Grown {
                     tickets,
-                    solution: Solution::At(node),
+                    solution: Some(node),
                 };
             }
             Next::Over => {
                 return Grown {
                     tickets,
-                    solution: Solution::Unsolved,
+                    solution: None,
                 };
             }
         }
     }
     Grown {
         tickets,
-        solution: Solution::Unsolved,
+        solution: None,
     }
 }
 
 // A node was taken from the queue: unless its vertex is closed already, it closes it and its edges are queued.
-fn visit(words: &mut [u32], s: Slot, node: u32, goals: &[u32], bound: CostBound) -> Next
+fn visit(words: &mut [u32], s: Slot, node: u32, goals: &[u32], bound: Option<u64>) -> Next
     requires { CanVisit s words.old node }
     ensures { Visits s words.old words.new node goals.now bound result }
 {
     let tree = slot_words(words, s.number);
-    let vertex = layout::node_vertex(words, tree, wide(node));
-    let cost = layout::node_cost(tree, wide(node));
+    let vertex = layout::node_vertex(words, tree, node as usize);
+    let cost = layout::node_cost(tree, node as usize);
     let Slot { at, end, .. } = s;
-    match close(&mut words[at..end], s.edges, wide(vertex), node) {
+    match close(&mut words[at..end], s.edges, vertex as usize, node) {
         CloseResult::Rejected => {
             return Next::On;
         }
@@ -103,18 +102,22 @@ fn push_choices(words: &mut [u32], s: Slot, node: u32, vertex: u32, cost: u32)
     requires { CanPushChoices s words.old vertex cost }
     ensures { SlotHolds s words.old words.new (push_all (domain_at s words.old) node (figures cost) (tree_at s words.old) (choices (domain_at s words.old) vertex)) }
 {
-    let numbers = layout::numbers_at(s.vertices, s.edges);
-    let slots = layout::slots_at(s.vertices, s.edges);
-    let mut place = layout::first_place(words, s.vertices, s.edges, wide(vertex));
-    let end = layout::first_place(words, s.vertices, s.edges, wide(vertex) + 1);
-    loop {
-        let next = next_edge(&words[numbers..slots], place, end);
-        let found = next.edge;
-        let NextEdge::Edge(edge) = found else {
-            return;
-        };
+    let size = GraphSize {
+        vertices: s.vertices,
+        edges: s.edges,
+    };
+    let numbers = size.numbers_at();
+    let slots = size.slots_at();
+    let mut place = size.first_place(words, vertex as usize);
+    let end = size.first_place(words, vertex as usize + 1);
+    // No iterator: the words are written between two edges.
+    while let Placed {
+        edge: Some(edge),
+        place: next,
+    } = next_edge(&words[numbers..slots], place, end)
+    {
         push_choice(words, s, node, cost, edge);
-        place = next.place;
+        place = next;
     }
 }
 
@@ -123,7 +126,7 @@ fn push_choice(words: &mut [u32], s: Slot, node: u32, cost: u32, edge: u32)
     requires { CanPushChoice s words.old cost edge }
     ensures { SlotHolds s words.old words.new (push_node (tree_at s words.old) (child (domain_at s words.old) node (figures cost) edge)) }
 {
-    let number = wide(edge);
+    let number = edge as usize;
     let child = Node {
         vertex: layout::edge_to(words, s.vertices, number),
         cost: cost + layout::edge_cost(words, s.vertices, number),
@@ -135,23 +138,14 @@ fn push_choice(words: &mut [u32], s: Slot, node: u32, cost: u32, edge: u32)
 }
 
 // A goal is a find and stops; then an evaluation above the bound stops.
-fn going_on(goals: &[u32], bound: CostBound, vertex: u32, evaluation: u64) -> Next
+fn going_on(goals: &[u32], bound: Option<u64>, vertex: u32, evaluation: u64) -> Next
     ensures { GoesOn goals.now bound vertex evaluation result }
 {
     if contains(goals, vertex) {
         return Next::Found;
     }
-    if is_above(evaluation, bound) {
+    if bound.is_some_and(|b| b < evaluation) {
         return Next::Over;
     }
     Next::On
-}
-
-fn is_above(evaluation: u64, bound: CostBound) -> bool
-    ensures { result ≡ above evaluation bound }
-{
-    match bound {
-        CostBound::Unbounded => false,
-        CostBound::Bound(b) => b < evaluation,
-    }
 }

@@ -1,15 +1,11 @@
--- "copies it out, calls the by-value step and stores the result": a step's answer without the record, and the two put together.
+-- "copies it out, calls the by-value step and stores the result": a step's answer without the record, and the two together.
 -- Assumes nothing.
-use Rattle.std.specs.Prelude.{◌≡◌, List, ℕ}
+use Rattle.std.specs.Prelude.{◌≡◌, List, ℕ, Err}
 use Rattle.model.specs.declared.Refusal.{Refusal}
-use Rattle.model.specs.declared.StepAnswer.TheVariants.{Refused}
 use Rattle.model.specs.declared.Search.{Search}
 use Rattle.model.specs.declared.Stepped.{Stepped}
 use Rattle.dijkstra.specs.Calls.{Stepping}
 use Rattle.in_place.specs.declared.StepReport.{StepReport}
-
-abbrev pub report_of : Stepped → StepReport
-report_of r = record { answer = r.answer; tickets = r.tickets }
 
 -- the answer of a step whose record stands elsewhere
 abbrev pub stepped_as : StepReport → Search → Stepped
@@ -19,4 +15,4 @@ stepped_as r s = record { answer = r.answer; tickets = r.tickets; search = s }
 abbrev pub Demand1 : Type 0
 Demand1 =
     (ws : List ℕ) (s s' : Search) (r : StepReport) (left : List ℕ) → Stepping ws s (stepped_as r s') left
-    → (f : Refusal) (line : ℕ) → r.answer ≡ Refused f line → (left ≡ ws) × ((s' ≡ s) × ((r.tickets ≡ 0) × (line ≡ 0)))
+    → (f : Refusal) → r.answer ≡ Err f → (left ≡ ws) × ((s' ≡ s) × (r.tickets ≡ 0))

@@ -3,16 +3,15 @@
 
 #![tactic(auto)]
 
-ghost use Rattle.std.specs.Prelude.{◌≡◌};
 ghost use Rattle.dijkstra.specs.Calls.{Stepping};
-ghost use Rattle.in_place.specs.Lent.{report_of, stepped_as};
+ghost use Rattle.in_place.specs.Lent.{stepped_as};
 
-use model::{Search, StepAnswer, Stepped};
+use model::{Refusal, Search, SearchStatus, Stepped};
 
 // What a step answered, without the record.
 #[derive(Clone, Copy)]
 pub struct StepReport {
-    pub answer: StepAnswer,
+    pub answer: Result<SearchStatus, Refusal>,
     pub tickets: usize,
 }
 
@@ -21,11 +20,12 @@ pub struct StepReport {
 pub fn step_in_place(words: &mut [u32], search: &mut Search) -> StepReport
     ensures { Stepping words.old search.old (stepped_as result search.new) words.new }
 {
-    let copy = *search;
-    let stepped = dijkstra::step(words, copy);
-    let next = search_of(stepped);
-    *search = next;
-    report_of(stepped)
+    let stepped = dijkstra::step(words, *search);
+    *search = stepped.search;
+    StepReport {
+        answer: stepped.answer,
+        tickets: stepped.tickets,
+    }
 }
 
 // For callers that hold the record by value.
@@ -34,33 +34,9 @@ pub fn step_lent(words: &mut [u32], search: Search) -> Stepped
 {
     let mut held = search;
     let report = step_in_place(words, &mut held);
-    stepped_of(report, held)
-}
-
-fn search_of(stepped: Stepped) -> Search
-    ensures { result ≡ stepped.search }
-{
-    let search = stepped.search;
-    search
-}
-
-fn report_of(stepped: Stepped) -> StepReport
-    ensures { result ≡ report_of stepped }
-{
-    let answer = stepped.answer;
-    StepReport {
-        answer,
-        tickets: stepped.tickets,
-    }
-}
-
-fn stepped_of(report: StepReport, search: Search) -> Stepped
-    ensures { result ≡ stepped_as report search }
-{
-    let answer = report.answer;
     Stepped {
-        answer,
+        answer: report.answer,
         tickets: report.tickets,
-        search,
+        search: held,
     }
 }

@@ -5,6 +5,7 @@ pub mod Members
 pub mod Places
 pub mod Sizes
 pub mod SlotWords
+pub mod StartCosts
 pub mod Trees
 pub mod Same
 pub mod Examples

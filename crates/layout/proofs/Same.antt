@@ -1,12 +1,13 @@
 -- The test of two lists holds exactly if they are one.
 -- Assumes nothing.
 use mathlib.Core.Path.{◌≡◌, refl, sym, ap, ap₂}
-use mathlib.Core.Bool.{Bool, true, false, true≢false}
+use mathlib.Core.Bool.{Bool, true, true≢false, ◌&&◌}
 use mathlib.Core.List.{List, [], ◌∷◌}
 use Prim.Native.Nat.{ℕ, ◌<◌}
 use borrow.Author.Tests.{eqb-true, eq-eqb}
 use lib.Dec.{eqb}
 use lib.ListN.{length, get_or}
+use lib.Pointwise.{pointwise}
 use lib.Seq.{ext_get_or}
 use Rattle.model.proofs.Bools.{and-true, true-and}
 use Rattle.layout.specs.Sound.{sameb}
@@ -29,9 +30,10 @@ is_same (x ∷ xs) = true-and (eqb x x) (sameb xs xs) (eq-eqb x x refl) (is_same
 pub alike_same : (a b : List ℕ) → length a ≡ length b → ((i : ℕ) → i < length a → get_or a i 0 ≡ get_or b i 0) → sameb a b ≡ true
 alike_same a b n h = rw (ext_get_or 0 a b n h) (is_same b)
 
-pub unlike-same : (a b : List ℕ) (i : ℕ) → (get_or a i 0 ≡ get_or b i 0 → ⊥) → sameb a b ≡ false
-unlike-same a b i h = go (sameb a b) refl
-  where
-    go : (t : Bool) → sameb a b ≡ t → t ≡ false
-    go true e = absurd (h (ap (λ (l : List ℕ). get_or l i 0) (same-is a b e)))
-    go false e = refl
+-- it is what `==` answers at two slices
+pub same_pointwise : (a b : List ℕ) → pointwise eqb a b ≡ sameb a b
+unfolding sameb
+same_pointwise [] [] = refl
+same_pointwise [] (y ∷ ys) = refl
+same_pointwise (x ∷ xs) [] = refl
+same_pointwise (x ∷ xs) (y ∷ ys) = ap (λ (t : Bool). eqb x y && t) (same_pointwise xs ys)

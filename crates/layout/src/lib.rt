@@ -10,9 +10,9 @@ ghost use Rattle.std.specs.Prelude.{◌≡◌, ◌+◌, ◌*◌, ◌^◌, ◌<�
 ghost use Rattle.model.specs.Limits.{vertex_limit, edge_limit, slot_limit};
 ghost use Rattle.model.specs.Graph.{root_cost};
 ghost use Rattle.layout.specs.Read.{direction_of};
-ghost use Rattle.layout.specs.Layout.{direction_in, initial_in, place_in, vertex_in, cost_in, parent_in, edge_in, from_in, to_in, edge_cost_in, NodeFits, EdgeFits, header_words, initial_at, edges_at, edge_at, places_at, numbers_at, slots_at, node_at, queue_at, closed_words_at, tree_words, slot_at, needed, Sized, EdgeWord, NodeWord};
+ghost use Rattle.layout.specs.Layout.{direction_in, initial_in, place_in, vertex_in, cost_in, parent_in, edge_in, from_in, to_in, edge_cost_in, NodeFits, EdgeFits, vertices_in, edges_in, header_words, initial_at, edges_at, edge_at, places_at, numbers_at, slots_at, node_at, queue_at, closed_words_at, tree_words, slot_at, needed, Sized, EdgeWord, NodeWord};
 
-// No initial cost; also the parent and the edge of a root.
+// No initial cost; also the parent and the edge of a root. One word of a cache says it, which has no room for an Option.
 pub const ABSENT: u32 = 4294967295;
 
 // The places of a header's words.
@@ -66,27 +66,6 @@ pub fn edge_at(vertices: usize, edge: usize) -> usize
     edges_at(vertices) + 3 * edge
 }
 
-pub fn places_at(vertices: usize, edges: usize) -> usize
-    requires { Sized vertices edges }
-    ensures { result ≡ places_at vertices edges }
-{
-    edge_at(vertices, edges)
-}
-
-pub fn numbers_at(vertices: usize, edges: usize) -> usize
-    requires { Sized vertices edges }
-    ensures { result ≡ numbers_at vertices edges }
-{
-    places_at(vertices, edges) + (vertices + 1)
-}
-
-pub fn slots_at(vertices: usize, edges: usize) -> usize
-    requires { Sized vertices edges }
-    ensures { result ≡ slots_at vertices edges }
-{
-    numbers_at(vertices, edges) + edges
-}
-
 // Within a tree's words: the nodes, the queue and the closed words.
 const NODES_AT: usize = 3;
 
@@ -111,25 +90,71 @@ pub fn closed_at(edges: usize) -> usize
     queue_at(edges) + (1 + edges)
 }
 
-pub fn tree_words(vertices: usize, edges: usize) -> usize
-    requires { Sized vertices edges }
-    ensures { result ≡ tree_words vertices edges }
-{
-    closed_at(edges) + vertices
+// The counts of a graph within 01's limits; where each area of its cache's words starts follows from them.
+#[derive(Clone, Copy)]
+pub struct GraphSize {
+    pub vertices: usize,
+    pub edges: usize,
+    pub ghost fit: { Sized vertices edges },
 }
 
-pub fn slot_at(vertices: usize, edges: usize, slot: usize) -> usize
-    requires { Sized vertices edges × (slot ≤ slot_limit) }
-    ensures { result ≡ slot_at vertices edges slot }
-{
-    slots_at(vertices, edges) + slot * tree_words(vertices, edges)
+impl GraphSize {
+    pub fn places_at(self) -> usize
+        ensures { result ≡ places_at self.vertices self.edges }
+    {
+        edge_at(self.vertices, self.edges)
+    }
+
+    pub fn numbers_at(self) -> usize
+        ensures { result ≡ numbers_at self.vertices self.edges }
+    {
+        self.places_at() + (self.vertices + 1)
+    }
+
+    pub fn slots_at(self) -> usize
+        ensures { result ≡ slots_at self.vertices self.edges }
+    {
+        self.numbers_at() + self.edges
+    }
+
+    pub fn tree_words(self) -> usize
+        ensures { result ≡ tree_words self.vertices self.edges }
+    {
+        closed_at(self.edges) + self.vertices
+    }
+
+    pub fn slot_at(self, slot: usize) -> usize
+        requires { slot ≤ slot_limit }
+        ensures { result ≡ slot_at self.vertices self.edges slot }
+    {
+        self.slots_at() + slot * self.tree_words()
+    }
+
+    pub fn words_needed(self, slots: usize) -> usize
+        requires { slots ≤ slot_limit }
+        ensures { result ≡ needed self.vertices self.edges slots }
+    {
+        self.slot_at(slots)
+    }
+
+    // Where the edges of a vertex begin among the edge numbers; those of the last vertex end at the place past it.
+    pub fn first_place(self, words: &[u32], vertex: usize) -> usize
+        requires { places_at self.vertices self.edges + vertex < length words.now }
+        ensures { result ≡ place_in self.vertices self.edges words.now vertex }
+    {
+        words[self.places_at() + vertex] as usize
+    }
 }
 
-pub fn words_needed(vertices: usize, edges: usize, slots: usize) -> usize
-    requires { Sized vertices edges × (slots ≤ slot_limit) }
-    ensures { result ≡ needed vertices edges slots }
+// The size that the header tells.
+pub fn graph_size(words: &[u32]) -> GraphSize
+    requires { (header_words ≤ length words.now) × Sized (vertices_in words.now) (edges_in words.now) }
+    ensures { (result.vertices ≡ vertices_in words.now) × (result.edges ≡ edges_in words.now) }
 {
-    slot_at(vertices, edges, slots)
+    GraphSize {
+        vertices: header(words, VERTICES),
+        edges: header(words, EDGES),
+    }
 }
 
 // One header word.
@@ -137,7 +162,7 @@ pub fn header(words: &[u32], place: usize) -> usize
     requires { (place < header_words) × (header_words ≤ length words.now) }
     ensures { result ≡ get_or words.now place 0 }
 {
-    wide(words[place])
+    words[place] as usize
 }
 
 // The initial cost of a vertex, 4294967295 for none.
@@ -224,19 +249,4 @@ pub fn node_edge(tree: &[u32], node: usize) -> u32
     ensures { result ≡ edge_in tree.now node }
 {
     node_word(tree, node, NODE_EDGE)
-}
-
-// Where the edges of a vertex begin among the edge numbers; those of the last vertex end at the place past it.
-pub fn first_place(words: &[u32], vertices: usize, edges: usize, vertex: usize) -> usize
-    requires { Sized vertices edges × (places_at vertices edges + vertex < length words.now) }
-    ensures { result ≡ place_in vertices edges words.now vertex }
-{
-    wide(words[places_at(vertices, edges) + vertex])
-}
-
-// A word as a place or a count.
-pub fn wide(x: u32) -> usize
-    ensures { result ≡ x }
-{
-    x as usize
 }

@@ -3,7 +3,7 @@ ghost use Rattle.std.specs.Prelude.{◌≡◌};
 ghost use Rattle.layout.specs.Layout.{vertices_in, edges_in};
 ghost use Rattle.layout.specs.Slots.{slot_words, slot_of, Numbered, HasSlot};
 
-use crate::{EDGES, VERTICES, header, slot_at, tree_words};
+use crate::graph_size;
 
 // Where the words of a tree stand.
 #[derive(Clone, Copy)]
@@ -19,15 +19,14 @@ pub fn slot_of(words: &[u32], slot: usize) -> Slot
     requires { Numbered words.now slot }
     ensures { result ≡ slot_of words.now slot }
 {
-    let vertices = header(words, VERTICES);
-    let edges = header(words, EDGES);
-    let at = slot_at(vertices, edges, slot);
+    let size = graph_size(words);
+    let at = size.slot_at(slot);
     Slot {
-        vertices,
-        edges,
+        vertices: size.vertices,
+        edges: size.edges,
         number: slot,
         at,
-        end: at + tree_words(vertices, edges),
+        end: at + size.tree_words(),
     }
 }
 

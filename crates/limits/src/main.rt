@@ -5,9 +5,9 @@
 
 ghost use Rattle.std.specs.Prelude.{◌<◌, ◌≤◌, length};
 
-use layout::wide;
-use model::{OpenAnswer, number};
+use model::{Refused, number};
 use put_text::{put_edge, put_vertex};
+use std::{fmt, io};
 
 // The longest line of a vertex, and of an edge. A text has room for all of its lines.
 const VERTEX: usize = 24;
@@ -23,175 +23,177 @@ struct Sample {
     cost: u32,
 }
 
-fn main() {
-    let mut text = [0u8; 60000];
-    let most = made(1024, 2048, 999999, 999999);
-    let n = put_sample(&mut text, most);
-    try_open(&text[0..n], most, 0, 1, 21518);
-    try_open(&text[0..n], most, 1, 1, 21518);
-    try_open(&text[0..n], most, 0, 1, 21517);
-    try_open(&text[0..n], most, 1, 1, 21517);
-    try_open(&text[0..n], most, 1, 1, 22000);
-    try_sample(made(1025, 0, 0, 0), 0, 1, 22000);
-    try_sample(made(1025, 2049, 0, 0), 1, 1, 22000);
-    try_sample(made(1024, 2049, 0, 0), 0, 1, 22000);
-    try_sample(made(1024, 2049, 0, 0), 1, 1, 22000);
-    try_sample(made(3, 4, 1000000, 0), 0, 1, 22000);
-    try_sample(made(3, 4, 0, 1000000), 1, 1, 22000);
-    try_slots(made(3, 4, 999999, 999999));
-    try_slots(made(0, 0, 0, 0));
+// What is asked for with a text, and how many words are lent.
+#[derive(Clone, Copy)]
+struct Opening {
+    direction: u32,
+    slots: usize,
+    lent: usize,
+    ghost fits: { lent ≤ 22000 },
 }
 
-fn made(vertices: u32, edges: u32, initial: u32, cost: u32) -> Sample {
-    Sample {
-        vertices,
-        edges,
-        initial,
-        cost,
+fn main(rt: HostRuntime) -> io::Result<()> {
+    let most = Sample::new(1024, 2048, 999999, 999999);
+    for (sample, opening) in [
+        (most, Opening::new(0, 1, 21518)),
+        (most, Opening::new(1, 1, 21518)),
+        (most, Opening::new(0, 1, 21517)),
+        (most, Opening::new(1, 1, 21517)),
+        (most, Opening::new(1, 1, 22000)),
+        (Sample::new(1025, 0, 0, 0), Opening::new(0, 1, 22000)),
+        (Sample::new(1025, 2049, 0, 0), Opening::new(1, 1, 22000)),
+        (Sample::new(1024, 2049, 0, 0), Opening::new(0, 1, 22000)),
+        (Sample::new(1024, 2049, 0, 0), Opening::new(1, 1, 22000)),
+        (Sample::new(3, 4, 1000000, 0), Opening::new(0, 1, 22000)),
+        (Sample::new(3, 4, 0, 1000000), Opening::new(1, 1, 22000)),
+    ] {
+        try_open(&rt, sample, opening)?;
     }
+    try_slots(&rt, Sample::new(3, 4, 999999, 999999))?;
+    try_slots(&rt, Sample::new(0, 0, 0, 0))
 }
 
 // Slots and direction at their limits, and lengths about what 64 slots need.
-fn try_slots(s: Sample) {
-    try_sample(s, 0, 0, 22000);
-    try_sample(s, 0, 1, 22000);
-    try_sample(s, 1, 64, 22000);
-    try_sample(s, 1, 65, 22000);
-    try_sample(s, 2, 1, 22000);
-    try_sample(s, 4294967295, 1, 22000);
-    try_sample(s, 0, 64, 2012);
-    try_sample(s, 0, 64, 2011);
-    try_sample(s, 1, 64, 518);
-    try_sample(s, 1, 64, 517);
-    try_sample(s, 0, 1, 0);
+fn try_slots(rt: &impl Print, sample: Sample) -> io::Result<()> {
+    for opening in [
+        Opening::new(0, 0, 22000),
+        Opening::new(0, 1, 22000),
+        Opening::new(1, 64, 22000),
+        Opening::new(1, 65, 22000),
+        Opening::new(2, 1, 22000),
+        Opening::new(4294967295, 1, 22000),
+        Opening::new(0, 64, 2012),
+        Opening::new(0, 64, 2011),
+        Opening::new(1, 64, 518),
+        Opening::new(1, 64, 517),
+        Opening::new(0, 1, 0),
+    ] {
+        try_open(rt, sample, opening)?;
+    }
+    Ok(())
 }
 
-fn try_sample(s: Sample, direction: u32, slots: usize, lent: usize)
-    requires { lent ≤ 22000 }
-{
+fn try_open(rt: &impl Print, sample: Sample, opening: Opening) -> io::Result<()> {
     let mut text = [0u8; 60000];
-    let n = put_sample(&mut text, s);
-    try_open(&text[0..n], s, direction, slots, lent);
-}
-
-fn try_open(text: &[u8], s: Sample, direction: u32, slots: usize, lent: usize)
-    requires { lent ≤ 22000 }
-{
-    print_sample(s);
-    print(direction as u64);
-    print(slots as u64);
-    print(lent as u64);
+    let n = put_sample(&mut text, sample);
     let mut words = [7u32; 24000];
-    open_in(&mut words, text, direction, slots, lent);
+    let lent = &mut words[..opening.lent];
+    let opened = cache::open(lent, &text[..n], opening.direction, opening.slots);
+    print!(rt; "{sample} {opening} ")?;
+    print_opened(rt, opened)?;
+    println!(rt; " {} {}", changed(&words), sum(&words))
 }
 
-// The first of the words are lent.
-fn open_in(words: &mut [u32], text: &[u8], direction: u32, slots: usize, lent: usize)
-    requires { lent ≤ length words.old }
-{
-    let answer = cache::open(&mut words[0..lent], text, direction, slots);
-    print_answer(answer);
-    print(changed(words) as u64);
-    io::print_decimal(1, sum(words) as u64);
-    io::write_all(1, b"\n");
-}
-
-fn print_sample(s: Sample) {
-    print(s.vertices as u64);
-    print(s.edges as u64);
-    print(s.initial as u64);
-    print(s.cost as u64);
-}
-
-fn print(x: u64) {
-    io::print_decimal(1, x);
-    io::write_all(1, b" ");
-}
-
-fn print_answer(answer: OpenAnswer) {
-    match answer {
-        OpenAnswer::Opened => {
-            io::write_all(1, b"opened ");
-        }
-        OpenAnswer::Refused { refusal, line } => {
-            io::write_all(1, b"refused ");
-            print(number(refusal) as u64);
-            print(line as u64);
-        }
+fn print_opened(rt: &impl Print, opened: Result<(), Refused>) -> io::Result<()> {
+    match opened {
+        Ok(()) => print!(rt; "opened"),
+        Err(Refused { refusal, line }) => print!(rt; "refused {} {line}", number(refusal)),
     }
 }
 
 // How many words stand before the last run of 7.
 fn changed(words: &[u32]) -> usize {
-    let mut n = words.len();
-    while 0 < n {
-        if words[n - 1] != 7 {
-            return n;
-        }
-        n -= 1;
-    }
-    n
+    words
+        .iter()
+        .rposition(|word| *word != 7)
+        .map_or(0, |i| i + 1)
 }
 
 fn sum(words: &[u32]) -> usize
     ensures { result < 4294967291 }
 {
     let mut sum: usize = 0;
-    let mut i = 0;
-    while i < words.len() {
-        sum = (sum * 31 + wide(words[i])) % 4294967291;
-        i += 1;
+    for word in words {
+        sum = (sum * 31 + *word as usize) % 4294967291;
     }
     sum
 }
 
-// ---- the text
-
-fn put_sample(text: &mut [u8], s: Sample) -> usize
-    ensures { result ≤ length text.new }
-{
-    let at = put_vertices(text, s);
-    put_edges(text, at, s)
+impl Sample {
+    fn new(vertices: u32, edges: u32, initial: u32, cost: u32) -> Sample {
+        Sample {
+            vertices,
+            edges,
+            initial,
+            cost,
+        }
+    }
 }
 
-fn put_vertices(text: &mut [u8], s: Sample) -> usize
+impl fmt::Display for Sample {
+    fn fmt<W: fmt::Write>(&self, f: &mut fmt::Formatter<W>) -> fmt::Result {
+        let Sample {
+            vertices,
+            edges,
+            initial,
+            cost,
+        } = self;
+        write!(f, "{vertices} {edges} {initial} {cost}")
+    }
+}
+
+impl Opening {
+    fn new(direction: u32, slots: usize, lent: usize) -> Opening
+        requires { lent ≤ 22000 }
+    {
+        Opening {
+            direction,
+            slots,
+            lent,
+        }
+    }
+}
+
+impl fmt::Display for Opening {
+    fn fmt<W: fmt::Write>(&self, f: &mut fmt::Formatter<W>) -> fmt::Result {
+        let Opening {
+            direction,
+            slots,
+            lent,
+        } = self;
+        write!(f, "{direction} {slots} {lent}")
+    }
+}
+
+// ---- the text
+
+fn put_sample(text: &mut [u8], sample: Sample) -> usize
+    ensures { result ≤ length text.new }
+{
+    let at = put_vertices(text, sample);
+    put_edges(text, at, sample)
+}
+
+fn put_vertices(text: &mut [u8], sample: Sample) -> usize
     ensures { result ≤ length text.old }
 {
-    let count = wide(s.vertices);
-    let initial = s.initial;
     let mut at = 0;
-    let mut v = 0;
-    while v < count {
+    for v in 0..sample.vertices as usize {
         if text.len() < at + VERTEX {
-            return at;
+            break;
         }
-        at = put_vertex(text, at, v, initial);
-        v += 1;
+        at = put_vertex(text, at, v, sample.initial);
     }
     at
 }
 
 // Edge e leads from vertex 7e to vertex 3e, counted round.
-fn put_edges(text: &mut [u8], start: usize, s: Sample) -> usize
+fn put_edges(text: &mut [u8], start: usize, sample: Sample) -> usize
     requires { start ≤ length text.old }
     ensures { result ≤ length text.old }
 {
-    let vertices = wide(s.vertices);
-    let count = wide(s.edges);
-    let cost = wide(s.cost);
-    if vertices == 0 {
-        return start;
-    }
+    let vertices = sample.vertices as usize;
     let mut at = start;
-    let mut e = 0;
-    while e < count {
+    if vertices == 0 {
+        return at;
+    }
+    for e in 0..sample.edges as usize {
         if text.len() < at + EDGE {
-            return at;
+            break;
         }
         let from = 7 * e % vertices;
         let to = 3 * e % vertices;
-        at = put_edge(text, at, from, to, cost);
-        e += 1;
+        at = put_edge(text, at, from, to, sample.cost as usize);
     }
     at
 }

@@ -1,6 +1,8 @@
 -- A record that fits a cache's words: what its entries, its best and the solutions held are there.
 -- Assumes nothing.
 use mathlib.Core.Path.{◌≡◌, sym, ap, ◌∙◌, subst}
+use Rattle.std.specs.Prelude.{Some, None, IsTrue, MatchOption}
+use Rattle.std.specs.declared.option.Option.{Option}
 use mathlib.Core.Bool.{Bool, true}
 use mathlib.Core.List.{List}
 use Prim.Native.Nat.{ℕ, ◌<◌, ◌≤◌}
@@ -9,20 +11,14 @@ use borrow.Author.Tests.{ltb-true, leb-true, eqb-true}
 use lib.Dec.{leb}
 use lib.ListN.{length}
 use lib.Seq.{length-take-le, get_or-take}
-use Rattle.model.specs.declared.CostBound.TheVariants.{Bound}
-use Rattle.model.specs.declared.KnownLen.{KnownLen}
-use Rattle.model.specs.declared.KnownLen.TheVariants.{Len}
-use Rattle.model.specs.declared.Solution.{Solution}
-use Rattle.model.specs.declared.Solution.TheVariants.{At}
 use Rattle.model.specs.declared.BestSolution.{BestSolution}
-use Rattle.model.specs.declared.BestSolution.TheVariants.{Best}
 use Rattle.model.specs.declared.TreeMemory.{TreeMemory}
 use Rattle.model.specs.declared.Search.{Search}
 use Rattle.model.specs.Lists.{mem, allb, all_below}
-use Rattle.model.specs.Worth.{node, solution_cost}
+use Rattle.model.specs.Worth.{node}
 use Rattle.model.specs.Sound.{tree}
-use Rattle.model.specs.Search.{entry, entries, goals}
-use Rattle.model.specs.Valid.{list_tests, known_within, closes_goal, solution_closes, entry_tests, everyb, best_tests, best_closes, held_cost, almost_tests, almost, valid}
+use Rattle.model.specs.Search.{entry, entries, goals, as_best}
+use Rattle.model.specs.Valid.{list_tests, known_within, closes_goal, solution_closes, entry_tests, everyb, best_tests, best_closes, almost_tests, almost, valid}
 use Rattle.model.proofs.Bools.{and-true, all_true}
 use Rattle.model.proofs.Valid.{every-at, entries-length, entries_at}
 use Rattle.model.proofs.StaysValid.{valid-almost}
@@ -39,21 +35,19 @@ pub in_use : {ws : List ℕ} {i : ℕ} → SoundWords ws → i < length (read_ca
 in_use {ws} ok h = record { sound = ok; slot = omega (arith, trees-length ws) }
 
 -- a remembered count
-pub known_read : {ws : List ℕ} {k : KnownLen} {n m : ℕ} → SoundWords ws → k ≡ Len n → m ≡ vertices_in ws → leb n m ≡ known_within (read_cache ws).domain k
-known_read {ws} {k} {n} ok e z = ap (leb n) (z ∙ sym (vertices-read ok)) ∙ sym (ap (known_within (read_cache ws).domain) e)
+pub known-read : {ws : List ℕ} → SoundWords ws → (k : Option ℕ) {m : ℕ} {r : Bool} → m ≡ vertices_in ws → MatchOption k (IsTrue r) (λ n. r ≡ leb n m)
+    → r ≡ known_within (read_cache ws).domain k
+known-read ok None z h = h
+known-read ok (Some n) z h = h ∙ ap (leb n) (z ∙ sym (vertices-read ok))
 
 -- the solution held
-module _ {ws : List ℕ} {e : TreeMemory} {n : ℕ} (c : CanJudge ws e) (z : e.solution ≡ At n) where
+module _ {ws : List ℕ} {e : TreeMemory} {n : ℕ} (c : CanJudge ws e) (z : e.solution ≡ Some n) where
   pub held-node : HasNode ws e.tree n
   held-node = record { used = in_use c.0 c.1.slot; node = c.1.node n z }
 
-  pub held-costs : {k : ℕ} → k ≡ solution_cost (read_cache ws).domain (tree (read_cache ws).trees e.tree).nodes n
-      → Bound k ≡ held_cost (read_cache ws).domain (tree (read_cache ws).trees e.tree) e.solution
-  held-costs h = ap Bound h ∙ sym (ap (held_cost (read_cache ws).domain (tree (read_cache ws).trees e.tree)) z)
-
 -- ---- the best
 
-module _ {ws : List ℕ} {s : Search} (ok : SoundWords ws) (f : FitsWords ws s) {i n : ℕ} (e : s.best_solution ≡ Best i n) where
+module _ {ws : List ℕ} {s : Search} (ok : SoundWords ws) (f : FitsWords ws s) {i n : ℕ} (e : s.best_solution ≡ as_best i n) where
   pub best-few : i < 64
   best-few = omega (arith, (f.best i n e).0, f.listed.entries)
 
@@ -85,7 +79,7 @@ module _ {ws : List ℕ} (ok : SoundWords ws) where
       let slot : e.tree < length (read_cache ws).trees = ltb-true _ _ t.0 in
       record {
         slot = slot;
-        node = λ n z. closes-node gs slot n (subst (λ (o : Solution). solution_closes gs (tree (read_cache ws).trees e.tree) o ≡ true) z t.1.1.0);
+        node = λ n z. closes-node gs slot n (subst (λ (o : Option ℕ). solution_closes gs (tree (read_cache ws).trees e.tree) o ≡ true) z t.1.1.0);
       }
 
 module _ (ws : List ℕ) (s : Search) (ok : SoundWords ws) (l : Listed s) where
@@ -107,7 +101,7 @@ module _ (ws : List ℕ) (s : Search) (ok : SoundWords ws) (l : Listed s) where
           subst (λ (v : ℕ). v < vertices_in ws) (get_or-take s.goal_count s.goal_keys i 0 h) (below_in (vertices_in ws) (goals s) below i (omega (arith, long)));
       held = held_at;
       best = λ i n z.
-          let q = all_true (best_tests (read_cache ws).trees s i n) (subst (λ (x : BestSolution). best_closes (read_cache ws).trees s x ≡ true) z best) in
+          let q = all_true (best_tests (read_cache ws).trees s i n) (subst (λ (x : Option BestSolution). best_closes (read_cache ws).trees s x ≡ true) z best) in
           let counted : i < s.tree_count = ltb-true _ _ q.0 in
           (counted, closes-node ok (goals s) (held_at i counted).slot n q.1.0);
     }

@@ -1,13 +1,16 @@
 -- Whether a node is the closed node of a goal, test by test.
 -- Assumes nothing.
 use mathlib.Core.Path.{◌≡◌, sym, ap, ◌∙◌}
+use Rattle.std.specs.declared.option.Option.{Option}
+use Rattle.std.specs.Prelude.{Some}
+use Rattle.std.specs.Option.{option_eq}
 use mathlib.Core.Logic.{◌≢◌}
-use mathlib.Core.Bool.{Bool, true, false, not, ◌&&◌, and-false}
+use mathlib.Core.Bool.{Bool, true, false, ◌&&◌, and-false}
 use mathlib.Core.List.{List}
-use Prim.Native.Nat.{ℕ, suc, ◌+◌, ◌-◌, ◌<◌, ◌≤◌}
+use Prim.Native.Nat.{ℕ, zero, suc, ◌+◌, ◌-◌, ◌<◌, ◌≤◌}
 use native.Mathlib.Omega.{arith}
 use native.Mathlib.Decide.{dec_lt}
-use borrow.Author.Tests.{ne_eqb, not-true, not-false}
+use borrow.Author.Tests.{ne_eqb}
 use lib.Dec.{eqb, eqb-zero-suc, eqb-suc-suc}
 use lib.ListN.{length, get_or-eq_default}
 use Rattle.model.specs.Lists.{mem}
@@ -15,10 +18,8 @@ use Rattle.model.specs.Tree.{Node, node, closed_at}
 use Rattle.model.specs.Valid.{closes_goal}
 use Rattle.layout.specs.Layout.{closed_words_at, closed_word_in, used_in, vertex_in}
 use Rattle.layout.proofs.Trees.{tree-node, tree-closed-length}
-use Rattle.tree.specs.declared.partial_keyed_closed_set.ClosedStatus.{ClosedStatus}
-use Rattle.tree.specs.declared.partial_keyed_closed_set.ClosedStatus.TheVariants.{Open, Closed}
 use Rattle.tree.specs.Tree.{tree_of, Formed, HasVertex, status_of}
-use Rattle.tree.proofs.Closed.{tree-word, open-word, closer-word, closer-used}
+use Rattle.tree.proofs.Closed.{tree-word, closer-used}
 use Rattle.memory.specs.Memory.{HasVertices}
 
 module _ {l : ℕ} {ws t : List ℕ} (n : ℕ) (ok : HasVertices l ws t) where
@@ -27,6 +28,10 @@ module _ {l : ℕ} {ws t : List ℕ} (n : ℕ) (ok : HasVertices l ws t) where
 
   abbrev it : Node
   it = node (tree_of ws l t).nodes n
+
+  closer-same : (w : ℕ) → option_eq eqb (status_of w) (Some n) ≡ eqb w (suc n)
+  closer-same zero = sym (eqb-zero-suc n)
+  closer-same (suc k) = sym (eqb-suc-suc k n)
 
   -- a closed word names a node in use
   unused : used_in t ≤ n → closed_at closed it.vertex ≢ suc n
@@ -47,8 +52,8 @@ module _ {l : ℕ} {ws t : List ℕ} (n : ℕ) (ok : HasVertices l ws t) where
     word-is : v ≡ vertex_in ws t n
     word-is = read ∙ ap (vertex_in ws t) at
 
-    pub goal-vertex : {w : ℕ} → w ≡ v → Formed l t × HasVertex l t w
-    goal-vertex wide = (ok.formed, omega (arith, ok.vertices n h, word-is, wide))
+    goal-vertex : Formed l t × HasVertex l t v
+    goal-vertex = (ok.formed, omega (arith, ok.vertices n h, word-is))
 
     module _ (gs : List ℕ) where
       closes-is : closes_goal gs (tree_of ws l t) n ≡ (mem v gs && eqb (closed_at closed v) (suc n))
@@ -58,18 +63,17 @@ module _ {l : ℕ} {ws t : List ℕ} (n : ℕ) (ok : HasVertices l ws t) where
           ap (λ (x : ℕ). mem x gs && eqb (closed_at closed x) (suc n)) (sym vertex)
 
       module _ {g : Bool} (sought : g ≡ mem v gs) where
-        pub goal-other : not g ≡ true → false ≡ closes_goal gs (tree_of ws l t) n
-        goal-other f = sym (closes-is ∙ ap (λ (b : Bool). b && eqb (closed_at closed v) (suc n)) (sym sought ∙ not-true g f))
+        pub goal-other : g ≡ false → g ≡ closes_goal gs (tree_of ws l t) n
+        goal-other f = f ∙ sym (closes-is ∙ ap (λ (b : Bool). b && eqb (closed_at closed v) (suc n)) (sym sought ∙ f))
 
-        module _ (found : not g ≡ false) {w : ℕ} (wide : w ≡ v) {r : ClosedStatus} (status : r ≡ status_of (closed_word_in l t w)) where
-          word : {k : ℕ} → closed_word_in l t w ≡ k → closes_goal gs (tree_of ws l t) n ≡ eqb k (suc n)
-          word e =
-              closes-is
-              ∙ ap (λ (b : Bool). b && eqb (closed_at closed v) (suc n)) (sym sought ∙ not-false g found)
-              ∙ ap (λ (x : ℕ). eqb x (suc n)) (ap (closed_at closed) (sym wide) ∙ tree-word ws l t w (goal-vertex wide).1 ∙ e)
-
-          pub goal-open : r ≡ Open → false ≡ closes_goal gs (tree_of ws l t) n
-          goal-open e = sym (word (open-word (closed_word_in l t w) (sym e ∙ status)) ∙ eqb-zero-suc n)
-
-          pub goal-closed : {k : ℕ} → r ≡ Closed k → eqb k n ≡ closes_goal gs (tree_of ws l t) n
-          goal-closed {k} e = sym (word (closer-word (closed_word_in l t w) k (sym e ∙ status)) ∙ eqb-suc-suc k n)
+        -- s: the node that closed the vertex, if one did
+        pub goal-same : g ≡ true → {s : Option ℕ} → s ≡ status_of (closed_word_in l t v) → {r : Bool} → r ≡ option_eq eqb s (Some n)
+            → r ≡ closes_goal gs (tree_of ws l t) n
+        goal-same found status same =
+            same
+            ∙ ap (λ (o : Option ℕ). option_eq eqb o (Some n)) status
+            ∙ closer-same (closed_word_in l t v)
+            ∙ sym
+            (closes-is
+            ∙ ap (λ (b : Bool). b && eqb (closed_at closed v) (suc n)) (sym sought ∙ found)
+            ∙ ap (λ (x : ℕ). eqb x (suc n)) (tree-word ws l t v goal-vertex.1))

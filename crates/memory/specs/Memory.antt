@@ -1,17 +1,14 @@
 -- What the functions on a search record and the words of its cache ask for.
 -- Assumes nothing.
-use Rattle.std.specs.Prelude.{◌≡◌, Bool, not, ◌||◌, List, [], ◌∷◌, ℕ, ◌<◌, ◌≤◌, length, get_or}
+use Rattle.std.specs.Prelude.{◌≡◌, Bool, not, ◌||◌, List, [], ◌∷◌, ℕ, ◌<◌, ◌≤◌, length, get_or, Some}
+use Rattle.std.specs.declared.option.Option.{Option}
 use Rattle.model.specs.Limits.{list_limit}
-use Rattle.model.specs.declared.CostBound.{CostBound}
-use Rattle.model.specs.declared.CostBound.TheVariants.{Bound}
-use Rattle.model.specs.declared.Solution.TheVariants.{At}
-use Rattle.model.specs.declared.BestSolution.TheVariants.{Best}
 use Rattle.model.specs.declared.TreeMemory.{TreeMemory}
 use Rattle.model.specs.declared.Search.{Search}
 use Rattle.model.specs.Graph.{Domain}
 use Rattle.model.specs.Tree.{Tree}
 use Rattle.model.specs.Sound.{tree}
-use Rattle.model.specs.Search.{entry, solution_cost}
+use Rattle.model.specs.Search.{entry, solution_cost, as_best}
 use Rattle.model.specs.Valid.{closes_goal, same_cost, is_held}
 use Rattle.layout.specs.Layout.{used_in, vertex_in, vertices_in}
 use Rattle.layout.specs.Read.{read_cache}
@@ -38,7 +35,7 @@ pub record Listed (s : Search) : Type 0 where
 -- the solution that an entry holds is a node of its tree, one of ts
 pub record EntryHolds (ts : List Tree) (e : TreeMemory) : Type 0 where
   pub slot : e.tree < length ts
-  pub node : (n : ℕ) → e.solution ≡ At n → n < length (tree ts e.tree).nodes
+  pub node : (n : ℕ) → e.solution ≡ Some n → n < length (tree ts e.tree).nodes
 
 abbrev pub CanJudge : List ℕ → TreeMemory → Type 0
 CanJudge ws e = SoundWords ws × EntryHolds (read_cache ws).trees e
@@ -49,13 +46,13 @@ pub record Fits (m : ℕ) (ts : List Tree) (s : Search) : Type 0 where
   pub listed : Listed s
   pub goals : (i : ℕ) → i < s.goal_count → get_or s.goal_keys i 0 < m
   pub held : (i : ℕ) → i < s.tree_count → EntryHolds ts (entry s i)
-  pub best : (i n : ℕ) → s.best_solution ≡ Best i n → (i < s.tree_count) × (n < length (tree ts (entry s i).tree).nodes)
+  pub best : (i n : ℕ) → s.best_solution ≡ as_best i n → (i < s.tree_count) × (n < length (tree ts (entry s i).tree).nodes)
 
 abbrev pub FitsWords : List ℕ → Search → Type 0
 FitsWords ws s = Fits (vertices_in ws) (read_cache ws).trees s
 
 -- what node n of an entry's tree has to pass to be the best of a record, finished or not: least is what the cheapest of the solutions held costs
-abbrev pub best_node_tests : Domain → List Tree → List ℕ → TreeMemory → ℕ → CostBound → Bool → List Bool
+abbrev pub best_node_tests : Domain → List Tree → List ℕ → TreeMemory → ℕ → Option ℕ → Bool → List Bool
 best_node_tests d ts gs e n least x =
     let t = tree ts e.tree in
-    closes_goal gs t n ∷ same_cost (Bound (solution_cost d t.nodes n)) least ∷ (not x || is_held e.solution) ∷ []
+    closes_goal gs t n ∷ same_cost (Some (solution_cost d t.nodes n)) least ∷ (not x || is_held e.solution) ∷ []

@@ -3,11 +3,11 @@
 
 #![tactic(auto)]
 
-ghost use Rattle.std.specs.Prelude.{◌≡◌};
+ghost use Rattle.std.specs.Prelude.{◌≡◌, leb, IsTrue, MatchOption};
 ghost use Rattle.model.specs.Lists.{allb};
 ghost use Rattle.model.specs.Worth.{solution_cost};
 ghost use Rattle.model.specs.Sound.{tree};
-ghost use Rattle.model.specs.Valid.{known_within, closes_goal, entry_tests, held_cost, lesser, same_cost, is_held};
+ghost use Rattle.model.specs.Valid.{closes_goal, entry_tests, held_cost, lesser};
 ghost use Rattle.layout.specs.Read.{read_cache};
 ghost use Rattle.tree.specs.Tree.{tree_of};
 ghost use Rattle.sound.specs.Facts.{SoundWords, InUse};
@@ -16,66 +16,60 @@ ghost use Rattle.memory.specs.Standing.{shown_at, standing_of, standing_in};
 
 use layout::lists::{are_vertices, contains};
 use layout::slots::slot_words;
-use layout::wide;
 use model::limits::MAX_ENTRIES;
-use model::{BestSolution, CostBound, KnownLen, Search, Solution, TreeMemory};
+use model::{Refusal, Search, TreeMemory};
 use tree::partial_keyed_closed_set;
-use tree::partial_keyed_closed_set::{ClosedStatus, status};
+use tree::partial_keyed_closed_set::status;
 
 // The node that a finished search shows: one of the tree in a slot.
 #[derive(Clone, Copy)]
-pub enum Shown {
-    Nothing,
-    Node { slot: usize, node: u32 },
+pub struct Shown {
+    pub slot: usize,
+    pub node: u32,
 }
 
-// How a search stands. A strange record is invalid.
+// How a search stands. One that finished without a solution shows nothing.
 #[derive(Clone, Copy)]
 pub enum Standing {
-    Invalid,
     Unfinished,
-    Finished(Shown),
+    Finished(Option<Shown>),
 }
 
 // Judges a record, and tells how its search stands. All of it is looked at in this one function, for each that it is handed to copies it.
-pub fn judge(words: &[u32], search: Search) -> Standing
+pub fn judge(words: &[u32], search: Search) -> Result<Standing, Refusal>
     requires { SoundWords words.now }
     ensures { result ≡ standing_in (read_cache words.now) search }
 {
     if MAX_ENTRIES < search.tree_count as usize {
-        return Standing::Invalid;
+        return Err(Refusal::InvalidSearch);
     }
     if MAX_ENTRIES < search.goal_count as usize {
-        return Standing::Invalid;
+        return Err(Refusal::InvalidSearch);
     }
     let trees = search.trees;
     let keys = search.goal_keys;
     let count = search.goal_count as usize;
     let goals = &keys[0..count];
     if !are_vertices(goals, layout::header(words, layout::VERTICES)) {
-        return Standing::Invalid;
+        return Err(Refusal::InvalidSearch);
     }
-    let mut least = CostBound::Unbounded;
-    let mut i = search.tree_count as usize;
-    while 0 < i {
-        i -= 1;
+    let mut least = None;
+    for i in (0..search.tree_count as usize).rev() {
         let memory = trees[i];
         if !entry_is_valid(words, memory, goals) {
-            return Standing::Invalid;
+            return Err(Refusal::InvalidSearch);
         }
         let held = held_cost(words, memory);
         least = lesser_of(held, least);
     }
-    let best = search.best_solution;
-    let BestSolution::Best { entry, node } = best else {
-        let is_valid = is_same(CostBound::Unbounded, least);
-        return stands(is_valid, search.exhausted, Shown::Nothing);
+    let Some(best) = search.best_solution else {
+        return stands(least.is_none(), search.exhausted, None);
     };
-    if search.tree_count <= entry {
-        return Standing::Invalid;
+    if search.tree_count <= best.entry {
+        return Err(Refusal::InvalidSearch);
     }
-    let memory = trees[entry as usize];
-    let is_valid = best_is_valid(words, memory, goals, node, least, search.exhausted);
+    let memory = trees[best.entry as usize];
+    let is_valid = best_is_valid(words, memory, goals, best.node, least, search.exhausted);
     stands(is_valid, search.exhausted, shown_at(memory))
 }
 
@@ -86,25 +80,20 @@ fn entry_is_valid(words: &[u32], memory: TreeMemory, goals: &[u32]) -> bool
     if layout::header(words, layout::TREES) <= memory.tree as usize {
         return false;
     }
-    let known = memory.last_known_closed_len;
-    if !is_within(words, known) {
+    let vertices = layout::header(words, layout::VERTICES);
+    if !is_within(memory.last_known_closed_len, vertices) {
         return false;
     }
-    let solution = memory.solution;
-    match solution {
-        Solution::Unsolved => true,
-        Solution::At(node) => closes_goal(words, memory.tree as usize, goals, node),
+    match memory.solution {
+        None => true,
+        Some(node) => closes_goal(words, memory.tree as usize, goals, node),
     }
 }
 
-fn is_within(words: &[u32], known: KnownLen) -> bool
-    requires { SoundWords words.now }
-    ensures { result ≡ known_within (read_cache words.now).domain known }
+fn is_within(known: Option<u32>, vertices: usize) -> bool
+    ensures { MatchOption known (IsTrue result) (λ n. result ≡ leb n vertices) }
 {
-    match known {
-        KnownLen::Never => true,
-        KnownLen::Len(n) => n as usize <= layout::header(words, layout::VERTICES),
-    }
+    known.is_none_or(|n| n as usize <= vertices)
 }
 
 // Whether a node is the closed node of a goal, in the tree of a slot.
@@ -123,41 +112,26 @@ fn is_closed_goal(words: &[u32], tree: &[u32], edges: usize, goals: &[u32], node
     if tree[layout::NODES] <= node {
         return false;
     }
-    let vertex = layout::node_vertex(words, tree, wide(node));
-    if !contains(goals, vertex) {
-        return false;
-    }
-    match status(tree, edges, wide(vertex)) {
-        ClosedStatus::Open => false,
-        ClosedStatus::Closed(closer) => closer == node,
-    }
+    let vertex = layout::node_vertex(words, tree, node as usize);
+    contains(goals, vertex) && status(tree, edges, vertex as usize) == Some(node)
 }
 
-// Whether a node may be the best, as one of an entry's tree; least: what the cheapest of the solutions held costs.
+// Whether a node may be the best, as one of an entry's tree; least: what the cheapest of the solutions held costs. A finished search with
+// a best has the solution that it answers.
 fn best_is_valid(
     words: &[u32],
     memory: TreeMemory,
     goals: &[u32],
     node: u32,
-    least: CostBound,
+    least: Option<u64>,
     exhausted: bool,
 ) -> bool
     requires { InUse words.now memory.tree }
     ensures { result ≡ allb (best_node_tests (read_cache words.now).domain (read_cache words.now).trees goals.now memory node least exhausted) }
 {
-    if !closes_goal(words, memory.tree as usize, goals, node) {
-        return false;
-    }
-    let cost = solution_cost(words, memory.tree as usize, node);
-    if !is_same(CostBound::Bound(cost), least) {
-        return false;
-    }
-    if !exhausted {
-        return true;
-    }
-    // A finished search with a best has the solution that it answers.
-    let solution = memory.solution;
-    is_held(solution)
+    closes_goal(words, memory.tree as usize, goals, node)
+        && Some(solution_cost(words, memory.tree as usize, node)) == least
+        && (!exhausted || memory.solution.is_some())
 }
 
 // What the solution at a node is worth.
@@ -168,80 +142,41 @@ pub fn solution_cost(words: &[u32], slot: usize, node: u32) -> u64
     partial_keyed_closed_set::solution_cost(words, slot_words(words, slot), node)
 }
 
-fn held_cost(words: &[u32], memory: TreeMemory) -> CostBound
+fn held_cost(words: &[u32], memory: TreeMemory) -> Option<u64>
     requires { CanJudge words.now memory }
     ensures { result ≡ held_cost (read_cache words.now).domain (tree (read_cache words.now).trees memory.tree) memory.solution }
 {
-    let solution = memory.solution;
-    match solution {
-        Solution::Unsolved => CostBound::Unbounded,
-        Solution::At(node) => CostBound::Bound(solution_cost(words, memory.tree as usize, node)),
-    }
+    let node = memory.solution?;
+    Some(solution_cost(words, memory.tree as usize, node))
 }
 
-fn lesser_of(a: CostBound, b: CostBound) -> CostBound
+// The lesser of two costs; one that is missing is no less than any.
+fn lesser_of(a: Option<u64>, b: Option<u64>) -> Option<u64>
     ensures { result ≡ lesser a b }
 {
-    match a {
-        CostBound::Unbounded => b,
-        CostBound::Bound(x) => match b {
-            CostBound::Unbounded => a,
-            CostBound::Bound(y) => {
-                if x <= y {
-                    return a;
-                }
-                b
-            }
-        },
-    }
-}
-
-fn is_same(a: CostBound, b: CostBound) -> bool
-    ensures { result ≡ same_cost a b }
-{
-    match a {
-        CostBound::Unbounded => match b {
-            CostBound::Unbounded => true,
-            CostBound::Bound(_) => false,
-        },
-        CostBound::Bound(x) => match b {
-            CostBound::Unbounded => false,
-            CostBound::Bound(y) => x == y,
-        },
-    }
-}
-
-fn is_held(solution: Solution) -> bool
-    ensures { result ≡ is_held solution }
-{
-    match solution {
-        Solution::Unsolved => false,
-        Solution::At(_) => true,
+    match (a, b) {
+        (Some(x), Some(y)) => Some(x.min(y)),
+        (None, _) => b,
+        (_, None) => a,
     }
 }
 
 // The solution that an entry holds.
-pub fn shown_at(memory: TreeMemory) -> Shown
+pub fn shown_at(memory: TreeMemory) -> Option<Shown>
     ensures { result ≡ shown_at memory memory.solution }
 {
-    let solution = memory.solution;
-    match solution {
-        Solution::Unsolved => Shown::Nothing,
-        Solution::At(node) => Shown::Node {
-            slot: memory.tree as usize,
-            node,
-        },
-    }
+    let slot = memory.tree as usize;
+    memory.solution.map(|node| Shown { slot, node })
 }
 
-fn stands(is_valid: bool, exhausted: bool, shown: Shown) -> Standing
+fn stands(is_valid: bool, exhausted: bool, shown: Option<Shown>) -> Result<Standing, Refusal>
     ensures { result ≡ standing_of is_valid exhausted shown }
 {
     if !is_valid {
-        return Standing::Invalid;
+        return Err(Refusal::InvalidSearch);
     }
     if !exhausted {
-        return Standing::Unfinished;
+        return Ok(Standing::Unfinished);
     }
-    Standing::Finished(shown)
+    Ok(Standing::Finished(shown))
 }

@@ -1,6 +1,8 @@
 -- A chain of one search's own steps and retraces among other calls: what its events are, and the state in which it is finished.
 -- Assumes nothing.
 use mathlib.Core.Path.{◌≡◌, refl, sym, ap, ap₂, ◌∙◌, subst}
+use Rattle.std.specs.declared.option.Option.{Option}
+use Rattle.std.specs.Prelude.{None, Some}
 use mathlib.Core.Logic.{◌⊎◌, inl, inr}
 use mathlib.Core.Bool.{Bool, true, false, ◌&&◌}
 use mathlib.Core.List.Memᴰ
@@ -9,12 +11,7 @@ use Prim.Native.Nat.{ℕ, suc, ◌+◌, ◌-◌, ◌*◌, ◌<◌, ◌≤◌}
 use native.Mathlib.Omega.{arith}
 use lib.Dec.{ltb}
 use lib.ListN.{length}
-use Rattle.model.specs.declared.CostBound.{CostBound}
-use Rattle.model.specs.declared.CostBound.TheVariants.{Bound}
-use Rattle.model.specs.declared.Solution.{Solution}
-use Rattle.model.specs.declared.Solution.TheVariants.{Unsolved, At}
 use Rattle.model.specs.declared.BestSolution.{BestSolution}
-use Rattle.model.specs.declared.BestSolution.TheVariants.{NoBest, Best}
 use Rattle.model.specs.declared.Search.{Search}
 use Rattle.model.specs.Lists.{mem}
 use Rattle.model.specs.Answers.{Reply, answered, Status, waiting, solved}
@@ -22,7 +19,7 @@ use Rattle.model.specs.Graph.{Graph, Domain, Direction, forward, backward, Accep
 use Rattle.model.specs.Tree.{Tree, node}
 use Rattle.model.specs.Path.{path, words}
 use Rattle.model.specs.Sound.{tree, Sound, SoundTrees}
-use Rattle.model.specs.Search.{solution_cost, entry, goals, bound_of, bound, Walk, walk}
+use Rattle.model.specs.Search.{solution_cost, entry, goals, bound_of, bound, Walk, walk, as_best}
 use Rattle.model.specs.Calls.{Cache, step_if, step, AfterStep, final_status, status_at, shown, shown_by, shown_tree, shown_tree_by, is_best, retrace, AfterRetrace}
 use Rattle.model.specs.Demands.{Call, after, Act, own_step, own_retrace, other, Event, stepped, retraced, events, Outcome, unreachable, reached, status_of, not_solved, shown_if, shown_of, Early, Late, Every, steps}
 use Rattle.model.proofs.Worth.{path_worth}
@@ -84,25 +81,25 @@ pub record State (d : Domain) (vs gs mine : List ℕ) (ts : List Tree) (s : Sear
   pub rooted : (v : ℕ) → mem v vs ≡ true → Allowed d v → (j : ℕ) × (j < s.tree_count) × ((tree ts (entry s j).tree).start ≡ v)
 
 -- every path from a root to a goal is worth at least b
-abbrev pub Final : Domain → List ℕ → List ℕ → CostBound → Type 0
+abbrev pub Final : Domain → List ℕ → List ℕ → Option ℕ → Type 0
 Final d vs gs b = (v x : ℕ) (ls : List ℕ) → mem v vs ≡ true → Allowed d v → mem x gs ≡ true → Leads d.graph v ls x → Under b (path_worth d v ls x)
 
-abbrev pub outcome_at : Direction → Tree → Solution → Outcome
-outcome_at dir t Unsolved = unreachable
-outcome_at forward t (At n) = reached (node t.nodes n).cost t.start (path t.nodes n)
-outcome_at backward t (At n) = reached (node t.nodes n).cost (node t.nodes n).vertex (back (path t.nodes n))
+abbrev pub outcome_at : Direction → Tree → Option ℕ → Outcome
+outcome_at dir t None = unreachable
+outcome_at forward t (Some n) = reached (node t.nodes n).cost t.start (path t.nodes n)
+outcome_at backward t (Some n) = reached (node t.nodes n).cost (node t.nodes n).vertex (back (path t.nodes n))
 
 abbrev pub outcome_of : Domain → List Tree → Search → Outcome
 outcome_of d ts s = outcome_at d.direction (shown_tree ts s) (shown s)
 
-status-is : (dir : Direction) (t : Tree) (o : Solution) → status_at t o ≡ status_of (outcome_at dir t o)
-status-is forward t Unsolved = refl
-status-is backward t Unsolved = refl
-status-is forward t (At n) = refl
-status-is backward t (At n) = ap (solved (node t.nodes n).cost) (sym (back-length (path t.nodes n)))
+status-is : (dir : Direction) (t : Tree) (o : Option ℕ) → status_at t o ≡ status_of (outcome_at dir t o)
+status-is forward t None = refl
+status-is backward t None = refl
+status-is forward t (Some n) = refl
+status-is backward t (Some n) = ap (solved (node t.nodes n).cost) (sym (back-length (path t.nodes n)))
 
 outcome-at : (dir : Direction) (t t' : Tree) (n : ℕ) → t'.start ≡ t.start → node t'.nodes n ≡ node t.nodes n → path t'.nodes n ≡ path t.nodes n
-    → outcome_at dir t' (At n) ≡ outcome_at dir t (At n)
+    → outcome_at dir t' (Some n) ≡ outcome_at dir t (Some n)
 outcome-at forward t t' n p q r = rw (p, q, r)
 outcome-at backward t t' n p q r = rw (q, r)
 
@@ -115,8 +112,8 @@ shown-with : (q : Bool) (g : Graph) (a : ℕ) (ls p : List ℕ) → shown_if q g
 shown-with true g a ls p = refl
 shown-with false g a ls p = refl
 
-shown-is : (dir : Direction) (g : Graph) (t : Tree) (n : ℕ) (p : List ℕ) → words dir t.nodes n ≡ outcome_words g (outcome_at dir t (At n))
-    → shown_of g (outcome_at dir t (At n)) p ≡ retrace_as true true dir t (At n) p
+shown-is : (dir : Direction) (g : Graph) (t : Tree) (n : ℕ) (p : List ℕ) → words dir t.nodes n ≡ outcome_words g (outcome_at dir t (Some n))
+    → shown_of g (outcome_at dir t (Some n)) p ≡ retrace_as true true dir t (Some n) p
 shown-is forward g t n p w =
     let ls : List ℕ = path t.nodes n in
     shown-with (ltb (length p) (1 + 2 * length ls)) g t.start ls p ∙ retrace-shown forward t n p (length ls) (path_words g t.start ls) refl (sym w)
@@ -136,26 +133,26 @@ module _ (d : Domain) (acc : Accepted d.graph) (vs gs mine : List ℕ) where
   pub record Shows (ts : List Tree) (s : Search) : Type 0 where
     pub i : ℕ
     pub n : ℕ
-    pub best : s.best_solution ≡ Best i n
+    pub best : s.best_solution ≡ as_best i n
     pub slot : (entry s i).tree < length ts
     pub own : Memᴰ (entry s i).tree mine
     pub h : ℕ
-    pub holds : (entry s i).solution ≡ At h
+    pub holds : (entry s i).solution ≡ Some h
     pub goal : Holds gs (tree ts (entry s i).tree) h
     pub inside : h < length (tree ts (entry s i).tree).nodes
-    pub bounds : bound d ts s ≡ Bound (solution_cost d (tree ts (entry s i).tree).nodes h)
+    pub bounds : bound d ts s ≡ Some (solution_cost d (tree ts (entry s i).tree).nodes h)
 
-  pub shows-cases : (ts : List Tree) (s : Search) → St ts s → (s.best_solution ≡ NoBest) ⊎ Shows ts s
+  pub shows-cases : (ts : List Tree) (s : Search) → St ts s → (s.best_solution ≡ None) ⊎ Shows ts s
   shows-cases ts s st = go s.best_solution refl st.ready.best
     where
-      go : (x : BestSolution) → s.best_solution ≡ x → BestsOk d (goals s) ts s x → (s.best_solution ≡ NoBest) ⊎ Shows ts s
-      go NoBest z k = inl z
-      go (Best i n) z k =
-          let e = st.ready.entries i k.counted in
+      go : (x : Option BestSolution) → s.best_solution ≡ x → BestsOk d (goals s) ts s x → (s.best_solution ≡ None) ⊎ Shows ts s
+      go None z k = inl z
+      go (Some b) z k =
+          let e = st.ready.entries b.entry k.counted in
           let h = e.known.holds k.h k.held in
           inr (record {
-            i = i;
-            n = n;
+            i = b.entry;
+            n = b.node;
             best = z;
             slot = e.inside;
             own = e.own;
@@ -163,15 +160,15 @@ module _ (d : Domain) (acc : Accepted d.graph) (vs gs mine : List ℕ) where
             holds = k.held;
             goal = rw st.same at h;
             inside = ((st.sound.each _ e.inside).closer _ k.h h.closes).0;
-            bounds = ap (bound_of d ts s) z ∙ ap Bound (sym k.level);
+            bounds = ap (bound_of d ts s) z ∙ ap Some (sym k.level);
           })
 
-  pub shown-none : (ts : List Tree) (s : Search) → s.best_solution ≡ NoBest → outcome_of d ts s ≡ unreachable
-  shown-none ts s z = ap (λ (x : BestSolution). outcome_at d.direction (shown_tree_by ts s x) (shown_by s x)) z
+  pub shown-none : (ts : List Tree) (s : Search) → s.best_solution ≡ None → outcome_of d ts s ≡ unreachable
+  shown-none ts s z = ap (λ (x : Option BestSolution). outcome_at d.direction (shown_tree_by ts s x) (shown_by s x)) z
 
-  pub shown-some : (ts : List Tree) (s : Search) (k : Shows ts s) → outcome_of d ts s ≡ outcome_at d.direction (tree ts (entry s k.i).tree) (At k.h)
+  pub shown-some : (ts : List Tree) (s : Search) (k : Shows ts s) → outcome_of d ts s ≡ outcome_at d.direction (tree ts (entry s k.i).tree) (Some k.h)
   shown-some ts s k =
-      ap (λ (x : BestSolution). outcome_at d.direction (shown_tree_by ts s x) (shown_by s x)) k.best ∙ ap (outcome_at d.direction (tree ts (entry s k.i).tree)) k.holds
+      ap (λ (x : Option BestSolution). outcome_at d.direction (shown_tree_by ts s x) (shown_by s x)) k.best ∙ ap (outcome_at d.direction (tree ts (entry s k.i).tree)) k.holds
 
   -- ---- in later trees
 
@@ -196,7 +193,7 @@ module _ (d : Domain) (acc : Accepted d.graph) (vs gs mine : List ℕ) where
           let t : Tree = tree ts (entry s x.i).tree in
           let t' : Tree = tree ts' (entry s x.i).tree in
           let l = k.1.each (entry s x.i).tree x.slot in
-          ap (λ (y : BestSolution). outcome_at d.direction (shown_tree_by ts' s y) (shown_by s y)) x.best
+          ap (λ (y : Option BestSolution). outcome_at d.direction (shown_tree_by ts' s y) (shown_by s y)) x.best
           ∙ ap (outcome_at d.direction t') x.holds
           ∙ outcome-at d.direction t t' x.h l.start (l.keeps x.h x.inside) (path-later d t t' (st.sound.each _ x.slot) l x.h x.inside)
           ∙ sym (shown-some ts s x)
@@ -249,18 +246,18 @@ module _ (d : Domain) (acc : Accepted d.graph) (vs gs mine : List ℕ) where
     retrace-early : (ts : List Tree) (s : Search) (p : List ℕ) → St ts s → s.exhausted ≡ false → retrace (at ts) s p ≡ not_solved p
     retrace-early ts s p st x = own-retrace ts s p st false x
 
-    module _ (g : Graph) (paths : (t : Tree) → Sound d t → (n : ℕ) → n < length t.nodes → words d.direction t.nodes n ≡ outcome_words g (outcome_at d.direction t (At n))) where
+    module _ (g : Graph) (paths : (t : Tree) → Sound d t → (n : ℕ) → n < length t.nodes → words d.direction t.nodes n ≡ outcome_words g (outcome_at d.direction t (Some n))) where
       retrace-late : (ts : List Tree) (s : Search) (p : List ℕ) → St ts s → s.exhausted ≡ true → retrace (at ts) s p ≡ shown_of g (outcome_of d ts s) p
       retrace-late ts s p st x = own-retrace ts s p st true x ∙ elim (shows-cases ts s st) [ inl z ↦ none-case z | inr z ↦ some-case z ]
         where
-          none-case : s.best_solution ≡ NoBest → showing ts s p (is_best s.best_solution) ≡ shown_of g (outcome_of d ts s) p
-          none-case z = ap (λ (y : BestSolution). showing ts s p (is_best y)) z ∙ ap (λ (o : Outcome). shown_of g o p) (sym (shown-none ts s z))
+          none-case : s.best_solution ≡ None → showing ts s p (is_best s.best_solution) ≡ shown_of g (outcome_of d ts s) p
+          none-case z = ap (λ (y : Option BestSolution). showing ts s p (is_best y)) z ∙ ap (λ (o : Outcome). shown_of g o p) (sym (shown-none ts s z))
 
           some-case : Shows ts s → showing ts s p (is_best s.best_solution) ≡ shown_of g (outcome_of d ts s) p
           some-case z =
               let t : Tree = tree ts (entry s z.i).tree in
-              ap (λ (y : BestSolution). retrace_as true (is_best y) d.direction (shown_tree_by ts s y) (shown_by s y) p) z.best
-              ∙ ap (λ (o : Solution). retrace_as true true d.direction t o p) z.holds
+              ap (λ (y : Option BestSolution). retrace_as true (is_best y) d.direction (shown_tree_by ts s y) (shown_by s y) p) z.best
+              ∙ ap (λ (o : Option ℕ). retrace_as true true d.direction t o p) z.holds
               ∙ sym (shown-is d.direction g t z.h p (paths t (st.sound.each _ z.slot) z.h z.inside))
               ∙ ap (λ (o : Outcome). shown_of g o p) (sym (shown-some ts s z))
 

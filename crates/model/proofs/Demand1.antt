@@ -1,8 +1,10 @@
 -- Demand 1 on abstract values: a refused call leaves cache, record and slice as they were. And a path shown leaves the words past it.
 -- Assumes nothing.
 use mathlib.Core.Path.{◌≡◌, refl, sym, ap, ◌∙◌, subst}
+use Rattle.model.specs.Search.{as_best}
+use Rattle.std.specs.declared.option.Option.{Option}
+use Rattle.std.specs.Prelude.{None, Some}
 use mathlib.Core.Bool.{Bool, true, false, true≢false}
-use mathlib.Core.Option.{Option, none, some}
 use mathlib.Core.List.{List}
 use Prim.Native.Nat.{ℕ, ◌+◌, ◌-◌, ◌*◌, ◌≤◌}
 use native.Mathlib.Nat.{add-sub_of_le}
@@ -11,9 +13,6 @@ use borrow.Author.Tests.{ltb-false, not-false}
 use lib.ListN.{length, get_or, drop, length-append, length-drop}
 use lib.Seq.{get_or-append-add, get_or-drop}
 use Rattle.model.specs.declared.BestSolution.{BestSolution}
-use Rattle.model.specs.declared.BestSolution.TheVariants.{NoBest, Best}
-use Rattle.model.specs.declared.Solution.{Solution}
-use Rattle.model.specs.declared.Solution.TheVariants.{At}
 use Rattle.model.specs.declared.Search.{Search}
 use Rattle.model.specs.Answers.{Reply, answered, refused}
 use Rattle.model.specs.Tree.{Tree}
@@ -36,8 +35,8 @@ unfolding initialize
 initialize-refused c ss gs n line = go (first_fault (initialize_faults c ss gs))
   where
     go : (o : Option ℕ) → (initialize_by o c ss gs).reply ≡ refused n line → RefusedInitialize c line (initialize_by o c ss gs)
-    go none e = absurd (answered-refused tt n line e)
-    go (some m) e = record { cache = refl; search = refl; lines = line-is m n line e }
+    go None e = absurd (answered-refused tt n line e)
+    go (Some m) e = record { cache = refl; search = refl; lines = line-is m n line e }
 
 step-refused : (c : Cache) (s : Search) (n line : ℕ) → (step c s).reply ≡ refused n line → RefusedStep c s line (step c s)
 unfolding step
@@ -48,16 +47,16 @@ step-refused c s n line = go (first_fault (step_faults c s))
     by-mark false e = absurd (answered-refused _ n line e)
 
     go : (o : Option ℕ) → (step_by o c s).reply ≡ refused n line → RefusedStep c s line (step_by o c s)
-    go none e = by-mark s.exhausted e
-    go (some m) e = record { cache = refl; search = refl; tickets = refl; lines = line-is m n line e }
+    go None e = by-mark s.exhausted e
+    go (Some m) e = record { cache = refl; search = refl; tickets = refl; lines = line-is m n line e }
 
 retrace-refused : (c : Cache) (s : Search) (p : List ℕ) (n line : ℕ) → (retrace c s p).reply ≡ refused n line → RefusedRetrace p line (retrace c s p)
 unfolding retrace
 retrace-refused c s p n line = go (first_fault (retrace_faults c s p))
   where
     go : (o : Option ℕ) → (retrace_by o c s p).reply ≡ refused n line → RefusedRetrace p line (retrace_by o c s p)
-    go none e = absurd (answered-refused _ n line e)
-    go (some m) e = record { path = refl; lines = line-is m n line e }
+    go None e = absurd (answered-refused _ n line e)
+    go (Some m) e = record { path = refl; lines = line-is m n line e }
 
 pub demand-1 : Demand1
 demand-1 = (initialize-refused, step-refused, retrace-refused)
@@ -86,20 +85,20 @@ pub retrace-fills : (c : Cache) (s : Search) (p : List ℕ) (m : ℕ) → (retra
 unfolding retrace
 retrace-fills c s p m = go (first_fault (retrace_faults c s p)) refl
   where
-    is-best : (x : BestSolution) → is_best x ≡ true → (i n : ℕ) × (x ≡ Best i n)
-    is-best NoBest e = absurd (true≢false (sym e))
-    is-best (Best i n) e = (i, n, refl)
+    is-best : (x : Option BestSolution) → is_best x ≡ true → (i n : ℕ) × (x ≡ as_best i n)
+    is-best None e = absurd (true≢false (sym e))
+    is-best (Some b) e = (b.entry, b.node, refl)
 
-    at-node : (t : Tree) (h : ℕ) → 1 + 2 * moves_of t.nodes h ≤ length p → moves_at t (At h) ≡ m → Filled p (written (words_at c.domain.direction t (At h)) p) m
+    at-node : (t : Tree) (h : ℕ) → 1 + 2 * moves_of t.nodes h ≤ length p → moves_at t (Some h) ≡ m → Filled p (written (words_at c.domain.direction t (Some h)) p) m
     at-node t h k e = subst (Filled p (written (words c.domain.direction t.nodes h) p)) e (filled (words c.domain.direction t.nodes h) p (moves_of t.nodes h) (words_count c.domain.direction t.nodes h) k)
 
-    by-solution : (t : Tree) (h : ℕ) (o : Solution) → o ≡ At h → 1 + 2 * moves_at t o ≤ length p → moves_at t o ≡ m → Filled p (written (words_at c.domain.direction t o) p) m
+    by-solution : (t : Tree) (h : ℕ) (o : Option ℕ) → o ≡ Some h → 1 + 2 * moves_at t o ≤ length p → moves_at t o ≡ m → Filled p (written (words_at c.domain.direction t o) p) m
     by-solution t h o z k e =
-        subst (λ (x : Solution). 1 + 2 * moves_at t x ≤ length p → moves_at t x ≡ m → Filled p (written (words_at c.domain.direction t x) p) m) (sym z) (at-node t h) k e
+        subst (λ (x : Option ℕ). 1 + 2 * moves_at t x ≤ length p → moves_at t x ≡ m → Filled p (written (words_at c.domain.direction t x) p) m) (sym z) (at-node t h) k e
 
     go : (o : Option ℕ) → first_fault (retrace_faults c s p) ≡ o → (retrace_by o c s p).reply ≡ answered m → Filled p (retrace_by o c s p).path m
-    go (some n) f e = absurd (answered-refused m n 0 (sym e))
-    go none f e =
+    go (Some n) f e = absurd (answered-refused m n 0 (sym e))
+    go None f e =
         let a = or-none _ _ _ f in
         let b = or-none _ _ _ a.1 in
         let d = or-none _ _ _ b.1 in

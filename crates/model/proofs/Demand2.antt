@@ -2,8 +2,9 @@
 -- and retraces is the reference's.
 -- Assumes nothing.
 use mathlib.Core.Path.{◌≡◌, sym, ap, ◌∙◌, subst}
+use Rattle.std.specs.declared.option.Option.{Option}
+use Rattle.std.specs.Prelude.{None}
 use mathlib.Core.Bool.{Bool, true, false}
-use mathlib.Core.Option.{Option, none}
 use mathlib.Core.List.{List}
 use Prim.Native.Nat.{ℕ}
 use Rattle.model.specs.declared.Search.{Search}
@@ -62,7 +63,7 @@ same_from : (c : Cache) → Accepted c.domain.graph → SoundCache c → (ss gs 
     → reference.events_from c ss gs acts ≡ events (initialize c ss gs).cache (initialize c ss gs).search acts
 unfolding initialize
 same_from c acc ok ss gs e acts =
-    let z : first_fault (initialize_faults c ss gs) ≡ none = no-fault c ss gs e in
+    let z : first_fault (initialize_faults c ss gs) ≡ None = no-fault c ss gs e in
     let m : MayInitialize c ss gs = may-initialize c ss gs z in
     let p = plant_all c.domain c.trees (roots_of c.domain.direction ss gs) in
     let us : Cache = with_trees c p.trees in

@@ -2,18 +2,16 @@
 -- of its own steps and retraces.
 -- Assumes nothing.
 use mathlib.Core.Path.{◌≡◌, refl, sym, ap, ◌∙◌, subst}
+use Rattle.std.specs.Prelude.{Some, None}
+use Rattle.std.specs.declared.option.Option.{Option}
 use mathlib.Core.Logic.{inl, inr}
 use mathlib.Core.Bool.{true}
-use mathlib.Core.Option.{Option}
 use mathlib.Core.List.{List, [], ◌∷◌}
 use Prim.Native.Nat.{ℕ, ◌+◌, ◌*◌, ◌<◌, ◌≤◌}
 use native.Mathlib.Omega.{arith}
 use lib.ListN.{length}
-use Rattle.model.specs.declared.CostBound.{CostBound}
 use Rattle.model.specs.declared.BestSolution.{BestSolution}
-use Rattle.model.specs.declared.BestSolution.TheVariants.{NoBest}
 use Rattle.model.specs.declared.Search.{Search}
-use Rattle.model.specs.declared.Solution.TheVariants.{At}
 use Rattle.model.specs.Lists.{all_below}
 use Rattle.model.specs.Answers.{answered}
 use Rattle.model.specs.Graph.{Graph, Domain, Direction, forward, backward, Accepted, Leads, SearchPath, vertex_count, edge_count, domain, initial_cost}
@@ -35,7 +33,7 @@ use Rattle.model.proofs.Chain.{lefts, lefts-most, State, Final, outcome_at, outc
 
 -- the words of a node's path are those of the outcome that it shows
 paths : (dir : Direction) (g : Graph) (t : Tree) → Sound (domain dir g) t → (n : ℕ) → n < length t.nodes
-    → words (domain dir g).direction t.nodes n ≡ outcome_words g (outcome_at (domain dir g).direction t (At n))
+    → words (domain dir g).direction t.nodes n ≡ outcome_words g (outcome_at (domain dir g).direction t (Some n))
 unfolding domain
 paths forward g t ok n h = words-forward (domain forward g) t ok n h
 paths backward g t ok n h = words-backward (domain backward g) t ok n h g refl
@@ -43,8 +41,8 @@ paths backward g t ok n h = words-backward (domain backward g) t ok n h g refl
 -- ---- what the outcome of a finished search means
 
 module _ (g : Graph) (acc : Accepted g) (ss gs mine : List ℕ) (ts : List Tree) (s : Search) where
-  nothing-under : (d : Domain) (k : ℕ) → s.best_solution ≡ NoBest → Under (bound d ts s) k → ⊥
-  nothing-under d k z u = subst (λ (x : BestSolution). Under (bound_of d ts s x) k) z u
+  nothing-under : (d : Domain) (k : ℕ) → s.best_solution ≡ None → Under (bound d ts s) k → ⊥
+  nothing-under d k z u = subst (λ (x : Option BestSolution). Under (bound_of d ts s x) k) z u
 
   right-forward : State (domain forward g) ss gs mine ts s → Final (domain forward g) ss gs (bound (domain forward g) ts s) → Right forward g ss gs (outcome_of (domain forward g) ts s)
   unfolding domain initial_cost
@@ -56,10 +54,10 @@ module _ (g : Graph) (acc : Accepted g) (ss gs mine : List ℕ) (ts : List Tree)
       a : Accepted d.graph
       a = acc
 
-      none-case : s.best_solution ≡ NoBest → Right forward g ss gs unreachable
+      none-case : s.best_solution ≡ None → Right forward g ss gs unreachable
       none-case z b ls p = nothing-under d _ z (f b p.goal ls p.start p.allowed p.sought p.leads)
 
-      some-case : (x : Shows d a ss gs mine ts s) → Right forward g ss gs (outcome_at forward (tree ts (entry s x.i).tree) (At x.h))
+      some-case : (x : Shows d a ss gs mine ts s) → Right forward g ss gs (outcome_at forward (tree ts (entry s x.i).tree) (Some x.h))
       some-case x =
           let t : Tree = tree ts (entry s x.i).tree in
           let o = st.owned _ x.own in
@@ -68,7 +66,7 @@ module _ (g : Graph) (acc : Accepted g) (ss gs mine : List ℕ) (ts : List Tree)
             path = record { goal = (node t.nodes x.h).vertex; start = o.root; allowed = o.allowed; sought = x.goal.sought; leads = p.0 };
             totals = sym p.1;
             least = λ b ms q. least-total d a (node t.nodes x.h) b q.goal
-                (λ ls l. subst (λ (y : CostBound). Under y (path_worth d b ls q.goal)) x.bounds (f b q.goal ls q.start q.allowed q.sought l)) ms q.leads;
+                (λ ls l. subst (λ (y : Option ℕ). Under y (path_worth d b ls q.goal)) x.bounds (f b q.goal ls q.start q.allowed q.sought l)) ms q.leads;
           }
 
   right-backward : State (domain backward g) gs ss mine ts s → Final (domain backward g) gs ss (bound (domain backward g) ts s) → Right backward g ss gs (outcome_of (domain backward g) ts s)
@@ -91,10 +89,10 @@ module _ (g : Graph) (acc : Accepted g) (ss gs mine : List ℕ) (ts : List Tree)
       turned : (b : ℕ) (ls : List ℕ) (p : SearchPath backward g ss gs b ls) → Leads d.graph p.goal (back ls) b
       turned b ls p = back-leads g ls b p.goal p.leads
 
-      none-case : s.best_solution ≡ NoBest → Right backward g ss gs unreachable
+      none-case : s.best_solution ≡ None → Right backward g ss gs unreachable
       none-case z b ls p = nothing-under d _ z (under b ls p (back ls) (turned b ls p))
 
-      some-case : (x : Shows d a gs ss mine ts s) → Right backward g ss gs (outcome_at backward (tree ts (entry s x.i).tree) (At x.h))
+      some-case : (x : Shows d a gs ss mine ts s) → Right backward g ss gs (outcome_at backward (tree ts (entry s x.i).tree) (Some x.h))
       some-case x =
           let t : Tree = tree ts (entry s x.i).tree in
           let o = st.owned _ x.own in
@@ -104,7 +102,7 @@ module _ (g : Graph) (acc : Accepted g) (ss gs mine : List ℕ) (ts : List Tree)
             path = record { goal = t.start; start = x.goal.sought; allowed = tt; sought = o.root; leads = leads-back g ls t.start (node t.nodes x.h).vertex p.0 };
             totals = omega (arith, p.1, total-back g ls);
             least = λ b ms q.
-                let k = least-total d a (node t.nodes x.h) q.goal b (λ ls l. subst (λ (y : CostBound). Under y (path_worth d q.goal ls b)) x.bounds (under b ms q ls l)) (back ms) (turned b ms q) in
+                let k = least-total d a (node t.nodes x.h) q.goal b (λ ls l. subst (λ (y : Option ℕ). Under y (path_worth d q.goal ls b)) x.bounds (under b ms q ls l)) (back ms) (turned b ms q) in
                 omega (arith, k, back_total g ms);
           }
 

@@ -2,12 +2,12 @@
 -- reference too. 01's table, from the text to the bytes, is run_sheet's.
 -- Assumes nothing.
 use mathlib.Core.Path.{◌≡◌, refl}
+use Rattle.std.specs.declared.option.Option.{Option}
+use Rattle.std.specs.Prelude.{None, Some}
 use mathlib.Core.Bool.{true, false}
 use mathlib.Core.List.{List, [], ◌∷◌, map}
-use mathlib.Core.Option.{Option, none, some}
 use Prim.Native.Nat.{ℕ, zero, suc, ◌+◌, ◌-◌, ◌*◌}
 use lib.ListN.{length, replicate, take}
-use Rattle.model.specs.declared.BestSolution.TheVariants.{NoBest}
 use Rattle.model.specs.Answers.{Reply, answered, refused, Status, waiting, solved, no_path}
 use Rattle.model.specs.Graph.{Edge, Graph, Direction, forward, backward, absent, domain, edge_numbers}
 use Rattle.model.specs.Worth.{evaluation_of, weight, solution_cost_of}
@@ -93,8 +93,8 @@ reference_drive (suc f) w k c m =
     ]
 
 abbrev pub reference_order_by : Option ℕ → Cache → reference.Opened → Told
-reference_order_by (some n) c o = turned_away c n
-reference_order_by none c o = reference_drive 8 0 (spent o.trees) (with_trees c o.trees) o.memory
+reference_order_by (Some n) c o = turned_away c n
+reference_order_by None c o = reference_drive 8 0 (spent o.trees) (with_trees c o.trees) o.memory
 
 unfoldable pub reference_order : Cache → List ℕ → List ℕ → Told
 unfolding reference_drive reference.initialize initialize
@@ -247,7 +247,7 @@ opened-record : (initialize (fresh forward) (0 ∷ 3 ∷ 1 ∷ 0 ∷ []) (2 ∷ 
   tree_count = 3;
   goal_keys = 2 ∷ replicate 63 0;
   goal_count = 1;
-  best_solution = NoBest;
+  best_solution = None;
   exhausted = false;
 }
 unfolding initialize fresh

@@ -1,6 +1,8 @@
 -- What the entries of a record hold, through one round and whatever counts are remembered: each is a node that closed a goal, and none costs less than the best.
 -- Assumes nothing.
 use mathlib.Core.Path.{◌≡◌, refl, sym, ap, ◌∙◌, subst}
+use Rattle.std.specs.declared.option.Option.{Option}
+use Rattle.std.specs.Prelude.{None, Some}
 use mathlib.Core.Logic.{◌⊎◌, inl, inr, ◌≢◌}
 use mathlib.Core.Bool.{Bool, true, false, true≢false}
 use mathlib.Core.List.{List}
@@ -11,40 +13,35 @@ use native.Mathlib.Decide.{ℕ_discrete}
 use borrow.Author.Tests.{ltb-true, ltb-false}
 use lib.ListN.{length, set, length-set}
 use lib.Seq.{get_or-set_same, get_or-set_other}
-use Rattle.model.specs.declared.CostBound.{CostBound}
-use Rattle.model.specs.declared.CostBound.TheVariants.{Unbounded, Bound}
-use Rattle.model.specs.declared.Solution.{Solution}
-use Rattle.model.specs.declared.Solution.TheVariants.{Unsolved, At}
 use Rattle.model.specs.declared.BestSolution.{BestSolution}
-use Rattle.model.specs.declared.BestSolution.TheVariants.{NoBest, Best}
 use Rattle.model.specs.declared.TreeMemory.{TreeMemory}
 use Rattle.model.specs.declared.Search.{Search}
 use Rattle.model.specs.Graph.{Domain, Accepted}
 use Rattle.model.specs.Worth.{Node, node, solution_cost_of, solution_cost}
 use Rattle.model.specs.Tree.{Tree}
 use Rattle.model.specs.Sound.{tree, no_tree, Sound, SoundTrees}
-use Rattle.model.specs.Search.{blank, entry, goals, dearer, cheaper, best_if, bound_of, bound, Turn, turn}
+use Rattle.model.specs.Search.{blank, entry, goals, dearer, cheaper, best_if, bound_of, bound, Turn, turn, as_best}
 use Rattle.model.proofs.Turns.{Upto, unsolved-at, hold-held, hold-from, Holds, holds_later, Under, under-le, turn-finds}
-use Rattle.model.proofs.Recorded.{best_by, best_after, hold, hold_if, entry_after, after, slot_kept}
+use Rattle.model.proofs.Recorded.{entry_of_best, node_of_best, best_by, best_after, hold, hold_if, entry_after, after, slot_kept}
 use Rattle.model.proofs.Later.{Later}
 use Rattle.model.proofs.Keeps.{AllLater, Keeps, turn-keeps, set_keeps}
 
 -- what the entry e holds closed a goal, and is not under the bound b
-pub record HeldOk (d : Domain) (gs : List ℕ) (ts : List Tree) (b : CostBound) (e : TreeMemory) : Type 0 where
+pub record HeldOk (d : Domain) (gs : List ℕ) (ts : List Tree) (b : Option ℕ) (e : TreeMemory) : Type 0 where
   pub inside : e.tree < length ts
-  pub holds : (n : ℕ) → e.solution ≡ At n → Holds gs (tree ts e.tree) n
-  pub low : (n : ℕ) → e.solution ≡ At n → Under b (solution_cost d (tree ts e.tree).nodes n)
+  pub holds : (n : ℕ) → e.solution ≡ Some n → Holds gs (tree ts e.tree) n
+  pub low : (n : ℕ) → e.solution ≡ Some n → Under b (solution_cost d (tree ts e.tree).nodes n)
 
 pub record Holding (d : Domain) (ts : List Tree) (s : Search) : Type 0 where
   pub arrays : length s.trees ≡ 64
   pub counts : s.tree_count ≤ 64
   pub entries : (j : ℕ) → j < s.tree_count → HeldOk d (goals s) ts (bound d ts s) (entry s j)
-  pub best : (j n : ℕ) → s.best_solution ≡ Best j n → (j < s.tree_count) × Holds (goals s) (tree ts (entry s j).tree) n
+  pub best : (j n : ℕ) → s.best_solution ≡ as_best j n → (j < s.tree_count) × Holds (goals s) (tree ts (entry s j).tree) n
 
 -- entry j holds a solution of cost k
 pub record HeldAt (d : Domain) (ts : List Tree) (s : Search) (j k : ℕ) : Type 0 where
   pub h : ℕ
-  pub held : (entry s j).solution ≡ At h
+  pub held : (entry s j).solution ≡ Some h
   pub level : solution_cost d (tree ts (entry s j).tree).nodes h ≡ k
 
 -- the node that closed a goal stays as it was
@@ -54,23 +51,23 @@ same-node d gs ts ts' ok l i n h k = (l.each i h).keeps n ((ok.each i h).closer 
 
 -- ---- costs and the bound
 
-not-cheaper : (k : ℕ) (b : CostBound) → cheaper k b ≡ false → Under b k
-not-cheaper k Unbounded e = absurd (true≢false e)
-not-cheaper k (Bound b) e = ltb-false _ _ e
+not-cheaper : (k : ℕ) (b : Option ℕ) → cheaper k b ≡ false → Under b k
+not-cheaper k None e = absurd (true≢false e)
+not-cheaper k (Some b) e = ltb-false _ _ e
 
-is-cheaper : (k : ℕ) (b : CostBound) → cheaper k b ≡ true → (j : ℕ) → Under b j → k ≤ j
-is-cheaper k Unbounded e j u = absurd u
-is-cheaper k (Bound b) e j u = le_of_lt (lt_of_lt_of_le (ltb-true k b e) u)
+is-cheaper : (k : ℕ) (b : Option ℕ) → cheaper k b ≡ true → (j : ℕ) → Under b j → k ≤ j
+is-cheaper k None e j u = absurd u
+is-cheaper k (Some b) e j u = le_of_lt (lt_of_lt_of_le (ltb-true k b e) u)
 
 -- a dearer find is dearer than what is held
-dearer-held : (d : Domain) (ns : List Node) (n : ℕ) (h : Solution) → dearer d ns n h ≡ true → (m : ℕ) × (h ≡ At m) × (solution_cost d ns m ≤ solution_cost d ns n)
-dearer-held d ns n Unsolved e = absurd (true≢false (sym e))
-dearer-held d ns n (At m) e = (m, refl, le_of_lt (ltb-true _ _ e))
+dearer-held : (d : Domain) (ns : List Node) (n : ℕ) (h : Option ℕ) → dearer d ns n h ≡ true → (m : ℕ) × (h ≡ Some m) × (solution_cost d ns m ≤ solution_cost d ns n)
+dearer-held d ns n None e = absurd (true≢false (sym e))
+dearer-held d ns n (Some m) e = (m, refl, le_of_lt (ltb-true _ _ e))
 
 -- o is a node of cost k, if it names one of at most k and none under k
-held-level : (d : Domain) (ns : List Node) (o : Solution) (k : ℕ) → Upto d ns o k → ((n : ℕ) → o ≡ At n → k ≤ solution_cost d ns n) → (n : ℕ) × (o ≡ At n) × (solution_cost d ns n ≡ k)
-held-level d ns Unsolved k u f = absurd u
-held-level d ns (At n) k u f = (n, refl, omega (arith, f n refl))
+held-level : (d : Domain) (ns : List Node) (o : Option ℕ) (k : ℕ) → Upto d ns o k → ((n : ℕ) → o ≡ Some n → k ≤ solution_cost d ns n) → (n : ℕ) × (o ≡ Some n) × (solution_cost d ns n ≡ k)
+held-level d ns None k u f = absurd u
+held-level d ns (Some n) k u f = (n, refl, omega (arith, f n refl))
 
 -- ---- one round
 
@@ -81,7 +78,7 @@ module _ (d : Domain) (acc : Accepted d.graph) (ts : List Tree) (s : Search) (ok
   abbrev e : TreeMemory
   e = entry s i
 
-  abbrev b : CostBound
+  abbrev b : Option ℕ
   b = bound d ts s
 
   abbrev u : Turn
@@ -96,7 +93,7 @@ module _ (d : Domain) (acc : Accepted d.graph) (ts : List Tree) (s : Search) (ok
   abbrev s₁ : Search
   s₁ = after d (bound d ts s) s i u
 
-  abbrev b₁ : CostBound
+  abbrev b₁ : Option ℕ
   b₁ = bound d ts₁ s₁
 
   ke : HeldOk d gs ts b e
@@ -108,7 +105,7 @@ module _ (d : Domain) (acc : Accepted d.graph) (ts : List Tree) (s : Search) (ok
   grows : Sound d u.tree × Later (tree ts e.tree) u.tree
   grows = turn-keeps d acc gs b (tree ts e.tree) e.last_known_closed_len first
 
-  finds : (n : ℕ) → u.find ≡ At n → Holds gs u.tree n
+  finds : (n : ℕ) → u.find ≡ Some n → Holds gs u.tree n
   finds = turn-finds d acc gs b (tree ts e.tree) e.last_known_closed_len first
 
   pub kept : Keeps d ts ts₁
@@ -140,80 +137,80 @@ module _ (d : Domain) (acc : Accepted d.graph) (ts : List Tree) (s : Search) (ok
       ∙ ap (λ (x : Node). solution_cost_of d x) (same-node d gs ts ts₁ ok kept.1 _ n (r.entries j h).inside k)
 
   -- a solution held, in the tree after the turn
-  held-cost : (n : ℕ) → e.solution ≡ At n → solution_cost d ns n ≡ solution_cost d (tree ts e.tree).nodes n
+  held-cost : (n : ℕ) → e.solution ≡ Some n → solution_cost d ns n ≡ solution_cost d (tree ts e.tree).nodes n
   held-cost n z = ap (λ (x : Node). solution_cost_of d x) (grows.1.keeps n (first.closer _ n (ke.holds n z).closes).0)
 
   -- the bound of the best as it was, in the trees as they are
-  old-bound : (x : BestSolution) → s.best_solution ≡ x → bound_of d ts₁ s₁ x ≡ bound_of d ts s x
-  old-bound NoBest z = refl
-  old-bound (Best j n) z = let k = r.best j n z in ap Bound (cost-stays j n k.0 k.1)
+  old-bound : (x : Option BestSolution) → s.best_solution ≡ x → bound_of d ts₁ s₁ x ≡ bound_of d ts s x
+  old-bound None z = refl
+  old-bound (Some b) z = let k = r.best b.entry b.node z in ap Some (cost-stays b.entry b.node k.0 k.1)
 
   -- the best is the old one, and no find is cheaper; or it is the find of this turn
   pub record Stays : Type 0 where
     pub best : s₁.best_solution ≡ s.best_solution
     pub bounds : b₁ ≡ b
-    pub finds : (n : ℕ) → u.find ≡ At n → Under b (solution_cost d ns n)
+    pub finds : (n : ℕ) → u.find ≡ Some n → Under b (solution_cost d ns n)
 
   pub record Improves : Type 0 where
     pub n : ℕ
-    pub find : u.find ≡ At n
-    pub best : s₁.best_solution ≡ Best i n
-    pub holds : hold d ns e.solution u.find ≡ At n
+    pub find : u.find ≡ Some n
+    pub best : s₁.best_solution ≡ as_best i n
+    pub holds : hold d ns e.solution u.find ≡ Some n
     pub under : (k : ℕ) → Under b k → solution_cost d ns n ≤ k
 
-  stays : s₁.best_solution ≡ s.best_solution → ((n : ℕ) → u.find ≡ At n → Under b (solution_cost d ns n)) → Stays
+  stays : s₁.best_solution ≡ s.best_solution → ((n : ℕ) → u.find ≡ Some n → Under b (solution_cost d ns n)) → Stays
   stays z f = record { best = z; bounds = ap (bound_of d ts₁ s₁) z ∙ old-bound s.best_solution refl; finds = f }
 
   pub best-cases : Stays ⊎ Improves
   best-cases = go u.find refl
     where
-      one : (n k : ℕ) → u.find ≡ At n → u.find ≡ At k → n ≡ k
+      one : (n k : ℕ) → u.find ≡ Some n → u.find ≡ Some k → n ≡ k
       one n k y z = cc
 
-      at-find : (f : Solution) → u.find ≡ f → s₁.best_solution ≡ best_after d ns b e.solution s.best_solution i f
+      at-find : (f : Option ℕ) → u.find ≡ f → s₁.best_solution ≡ best_after d ns b e.solution s.best_solution i f
       at-find f z = ap (best_after d ns b e.solution s.best_solution i) z
 
-      hold-find : (f : Solution) → u.find ≡ f → hold d ns e.solution u.find ≡ hold d ns e.solution f
+      hold-find : (f : Option ℕ) → u.find ≡ f → hold d ns e.solution u.find ≡ hold d ns e.solution f
       hold-find f z = ap (hold d ns e.solution) z
 
-      tests : (n : ℕ) → u.find ≡ At n → (p : Bool) → dearer d ns n e.solution ≡ p → (q : Bool) → cheaper (solution_cost d ns n) b ≡ q → Stays ⊎ Improves
+      tests : (n : ℕ) → u.find ≡ Some n → (p : Bool) → dearer d ns n e.solution ≡ p → (q : Bool) → cheaper (solution_cost d ns n) b ≡ q → Stays ⊎ Improves
       tests n z true p q y =
           let m = dearer-held d ns n e.solution p in
-          inl (stays (at-find (At n) z ∙ ap (λ (t : Bool). best_by t (cheaper (solution_cost d ns n) b) s.best_solution i n) p)
+          inl (stays (at-find (Some n) z ∙ ap (λ (t : Bool). best_by t (cheaper (solution_cost d ns n) b) s.best_solution i n) p)
           (λ k w. subst (λ (x : ℕ). Under b (solution_cost d ns x)) (one n k z w) (under-le b _ _ m.2 (rw (held-cost m.0 m.1) (ke.low m.0 m.1)))))
       tests n z false p false y =
-          inl (stays (at-find (At n) z ∙ ap (λ (t : Bool). best_by t (cheaper (solution_cost d ns n) b) s.best_solution i n) p ∙ ap (λ (t : Bool). best_if t s.best_solution i n) y)
+          inl (stays (at-find (Some n) z ∙ ap (λ (t : Bool). best_by t (cheaper (solution_cost d ns n) b) s.best_solution i n) p ∙ ap (λ (t : Bool). best_if t s.best_solution i n) y)
           (λ k w. subst (λ (x : ℕ). Under b (solution_cost d ns x)) (one n k z w) (not-cheaper _ b y)))
       tests n z false p true y =
           inr (record {
             n = n;
             find = z;
-            best = at-find (At n) z ∙ ap (λ (t : Bool). best_by t (cheaper (solution_cost d ns n) b) s.best_solution i n) p ∙ ap (λ (t : Bool). best_if t s.best_solution i n) y;
-            holds = hold-find (At n) z ∙ ap (λ (t : Bool). hold_if t e.solution n) p;
+            best = at-find (Some n) z ∙ ap (λ (t : Bool). best_by t (cheaper (solution_cost d ns n) b) s.best_solution i n) p ∙ ap (λ (t : Bool). best_if t s.best_solution i n) y;
+            holds = hold-find (Some n) z ∙ ap (λ (t : Bool). hold_if t e.solution n) p;
             under = is-cheaper _ b y;
           })
 
-      go : (f : Solution) → u.find ≡ f → Stays ⊎ Improves
-      go Unsolved z = inl (stays (at-find Unsolved z) (λ n y. absurd (unsolved-at n (sym z ∙ y))))
-      go (At n) z = tests n z (dearer d ns n e.solution) refl (cheaper (solution_cost d ns n) b) refl
+      go : (f : Option ℕ) → u.find ≡ f → Stays ⊎ Improves
+      go None z = inl (stays (at-find None z) (λ n y. absurd (unsolved-at n (sym z ∙ y))))
+      go (Some n) z = tests n z (dearer d ns n e.solution) refl (cheaper (solution_cost d ns n) b) refl
 
-  improved-bound : (x : Improves) → b₁ ≡ Bound (solution_cost d ns x.n)
+  improved-bound : (x : Improves) → b₁ ≡ Some (solution_cost d ns x.n)
   improved-bound x =
-      ap (bound_of d ts₁ s₁) x.best ∙ ap (λ (y : ℕ). Bound (solution_cost d (tree ts₁ y).nodes x.n)) (slot i) ∙ ap (λ (t : Tree). Bound (solution_cost d t.nodes x.n)) at
+      ap (bound_of d ts₁ s₁) x.best ∙ ap (λ (y : ℕ). Some (solution_cost d (tree ts₁ y).nodes x.n)) (slot i) ∙ ap (λ (t : Tree). Some (solution_cost d t.nodes x.n)) at
 
   pub lower : (k : ℕ) → Under b k → Under b₁ k
-  lower k a = elim best-cases [ inl x ↦ rw x.bounds a | inr x ↦ subst (λ (y : CostBound). Under y k) (sym (improved-bound x)) (x.under k a) ]
+  lower k a = elim best-cases [ inl x ↦ rw x.bounds a | inr x ↦ subst (λ (y : Option ℕ). Under y k) (sym (improved-bound x)) (x.under k a) ]
 
-  find-low : (n : ℕ) → u.find ≡ At n → Under b₁ (solution_cost d ns n)
+  find-low : (n : ℕ) → u.find ≡ Some n → Under b₁ (solution_cost d ns n)
   find-low n z = elim best-cases [
     | inl x ↦ rw x.bounds (x.finds n z)
-    | inr x ↦ subst (λ (y : CostBound). Under y (solution_cost d ns n)) (sym (improved-bound x)) (let q : x.n ≡ n = one x.find z in rw q (omega arith))
+    | inr x ↦ subst (λ (y : Option ℕ). Under y (solution_cost d ns n)) (sym (improved-bound x)) (let q : x.n ≡ n = one x.find z in rw q (omega arith))
   ]
     where
-      one : {a c : ℕ} → u.find ≡ At a → u.find ≡ At c → a ≡ c
+      one : {a c : ℕ} → u.find ≡ Some a → u.find ≡ Some c → a ≡ c
       one y w = cc
 
-  pub low-now : (n : ℕ) → hold d ns e.solution u.find ≡ At n → Under b₁ (solution_cost d ns n)
+  pub low-now : (n : ℕ) → hold d ns e.solution u.find ≡ Some n → Under b₁ (solution_cost d ns n)
   low-now n z = elim (hold-from d ns e.solution u.find n z) [ inl y ↦ lower _ (rw (held-cost n y) (ke.low n y)) | inr y ↦ find-low n y ]
 
   -- ---- what the entries hold now
@@ -237,17 +234,17 @@ module _ (d : Domain) (acc : Accepted d.graph) (ts : List Tree) (s : Search) (ok
         low = λ n y. let a = sym same ∙ y in lower _ (rw (cost-stays j n h (k.holds n a)) (k.low n a));
       }
 
-  best-now : Stays ⊎ Improves → (j n : ℕ) → s₁.best_solution ≡ Best j n → (j < s.tree_count) × Holds gs (tree ts₁ (entry s₁ j).tree) n
+  best-now : Stays ⊎ Improves → (j n : ℕ) → s₁.best_solution ≡ as_best j n → (j < s.tree_count) × Holds gs (tree ts₁ (entry s₁ j).tree) n
   best-now (inl x) j n z = let k = r.best j n (sym x.best ∙ z) in (k.0, holds-now j n k.0 k.1)
   best-now (inr x) j n z = go (sym x.best ∙ z)
     where
-      go : Best i x.n ≡ Best j n → (j < s.tree_count) × Holds gs (tree ts₁ (entry s₁ j).tree) n
+      go : as_best i x.n ≡ as_best j n → (j < s.tree_count) × Holds gs (tree ts₁ (entry s₁ j).tree) n
       go y =
-          let p : i ≡ j = cc in
-          let q : x.n ≡ n = cc in (
+          let p : i ≡ j = ap entry_of_best y in
+          let q : x.n ≡ n = ap node_of_best y in (
             rw p at hi,
             subst (λ (k : ℕ). Holds gs (tree ts₁ (entry s₁ k).tree) n) p
-                (subst (λ (t : Tree). Holds gs t n) (sym at ∙ ap (tree ts₁) (sym (slot i))) (finds n (x.find ∙ ap At q))),
+                (subst (λ (t : Tree). Holds gs t n) (sym at ∙ ap (tree ts₁) (sym (slot i))) (finds n (x.find ∙ ap Some q))),
           )
 
   pub after-round : Holding d ts₁ s₁
@@ -264,7 +261,7 @@ module _ (d : Domain) (acc : Accepted d.graph) (ts : List Tree) (s : Search) (ok
   level-new x = record { h = x.n; held = ap (λ (y : TreeMemory). y.solution) entry-i ∙ x.holds; level = refl }
 
   -- where the bound stays, an entry that holds a solution of that cost still does
-  pub level-kept : (j k : ℕ) → j < s.tree_count → b ≡ Bound k → b₁ ≡ b → HeldAt d ts s j k → HeldAt d ts₁ s₁ j k
+  pub level-kept : (j k : ℕ) → j < s.tree_count → b ≡ Some k → b₁ ≡ b → HeldAt d ts s j k → HeldAt d ts₁ s₁ j k
   level-kept j k h is same l = elim (ℕ_discrete j i) [ yes z ↦ rw z (here (rw z at l)) | no z ↦ there z ]
     where
       there : j ≢ i → HeldAt d ts₁ s₁ j k
@@ -277,9 +274,9 @@ module _ (d : Domain) (acc : Accepted d.graph) (ts : List Tree) (s : Search) (ok
       here : HeldAt d ts s i k → HeldAt d ts₁ s₁ i k
       here x =
           let cost : solution_cost d ns x.h ≡ k = held-cost x.h x.held ∙ x.level in
-          let up : Upto d ns e.solution k = subst (λ (o : Solution). Upto d ns o k) (sym x.held) (omega (arith, cost)) in
+          let up : Upto d ns e.solution k = subst (λ (o : Option ℕ). Upto d ns o k) (sym x.held) (omega (arith, cost)) in
           let m = held-level d ns (hold d ns e.solution u.find) k (hold-held d ns e.solution u.find k up)
-          (λ n w. subst (λ (y : CostBound). Under y (solution_cost d ns n)) (same ∙ is) (low-now n w)) in
+          (λ n w. subst (λ (y : Option ℕ). Under y (solution_cost d ns n)) (same ∙ is) (low-now n w)) in
           record {
             h = m.0;
             held = ap (λ (y : TreeMemory). y.solution) entry-i ∙ m.1;

@@ -1,14 +1,12 @@
--- Tests one after the other, as a loop makes them: one that fails, one more that passes, the last one; and tests of words as they are read.
+-- Tests one after the other: one more that passes, one that fails, the last one.
 -- Assumes nothing.
 use mathlib.Core.Path.{◌≡◌, refl, sym, ap, ◌∙◌}
 use mathlib.Core.Bool.{Bool, true, false, not, ◌&&◌, and-true}
 use mathlib.Core.List.{List, [], ◌∷◌}
-use Prim.Native.Nat.{ℕ, zero, suc, ◌+◌, ◌<◌, ◌≤◌}
-use native.Mathlib.Decide.{ℕ_discrete}
+use Prim.Native.Nat.{ℕ, zero, suc, ◌+◌, ◌≤◌}
 use native.Mathlib.Numerals.{add-one}
 use native.Mathlib.Omega.{arith}
-use borrow.Author.Tests.{not-true, not-false, lt-ltb, eq-eqb, ne_eqb}
-use lib.Dec.{eqb, ltb}
+use borrow.Author.Tests.{not-false}
 use lib.ListN.{length, get_or, take}
 use Rattle.model.specs.Lists.{allb, upto}
 use Rattle.model.proofs.Bools.{Given, true-and, upto-at, at-upto}
@@ -25,23 +23,11 @@ same_tests false false f g = refl
 
 -- ---- of the numbers below n
 
-pub upto-fails : (p : ℕ → Bool) (n i : ℕ) → i < n → p i ≡ false → upto p n ≡ false
-unfolding upto
-upto-fails p zero i h e = absurd (omega arith)
-upto-fails p (suc n) i h e = go (upto-fails p n i) (ℕ_discrete i n)
-  where
-    go : (i < n → p i ≡ false → upto p n ≡ false) → Dec (i ≡ n) → (p n && upto p n) ≡ false
-    go ih (yes q) = ap (λ (b : Bool). b && upto p n) (ap p (sym q) ∙ e)
-    go ih (no q) = and-false (p n) (upto p n) (ih (omega arith) e)
-
--- a loop over the numbers below n that says no at the first that fails, where b is what it says of i: the numbers below i passed
+-- a loop over the numbers below n, where b is what it says of i: the numbers below i passed
 module _ (p : ℕ → Bool) where
   pub none_yet : upto p 0 ≡ true
   unfolding upto
   none_yet = refl
-
-  pub one-fails : (n i : ℕ) (b : Bool) → i < n → b ≡ p i → not b ≡ true → false ≡ upto p n
-  one-fails n i b h e f = sym (upto-fails p n i h (sym e ∙ not-true b f))
 
   pub one_more : (i : ℕ) (b : Bool) → upto p i ≡ true → b ≡ p i → not b ≡ false → upto p (i + 1) ≡ true
   unfolding upto
@@ -72,14 +58,3 @@ read-fails {cs = cs} e k f = sym (ap allb e ∙ all-fails cs k f)
 -- where all tests before it pass, the last one decides
 pub read-last : {bs cs : List Bool} → bs ≡ cs → (k : ℕ) → length cs ≡ suc k → Given (take k cs) (get_or cs k true ≡ allb bs)
 read-last {bs} {cs} e k n = last-to cs k (get_or cs k true ≡ allb bs) n (λ q. q ∙ sym (ap allb e))
-
--- ---- the words x and y are read as a and b
-
-pub read_below : {a x n : ℕ} → a ≡ x → a < n → ltb x n ≡ true
-read_below {x = x} {n = n} e h = lt-ltb x n (omega arith)
-
-pub read_same : {a b x y : ℕ} → a ≡ x → b ≡ y → a ≡ b → eqb x y ≡ true
-read_same {x = x} {y = y} e f h = eq-eqb x y (sym e ∙ h ∙ f)
-
-pub read-differ : {a b x y : ℕ} → a ≡ x → b ≡ y → (a ≡ b → ⊥) → eqb x y ≡ false
-read-differ {x = x} {y = y} e f h = ne_eqb x y (λ q. h (e ∙ q ∙ sym f))

@@ -1,9 +1,11 @@
 -- Any call, with any record, keeps the trees of a cache sound, and what was there stays.
 -- Assumes nothing.
 use mathlib.Core.Path.{◌≡◌, refl, sym, ap, ◌∙◌, subst}
+use Rattle.std.proofs.lemmas.Option.{none-some}
+use Rattle.std.specs.declared.option.Option.{Option}
+use Rattle.std.specs.Prelude.{None, Some}
 use mathlib.Core.Logic.{inl, inr, ◌≢◌}
 use mathlib.Core.Bool.{Bool, true, false}
-use mathlib.Core.Option.{Option, none, some, none-ne-some}
 use mathlib.Core.List.Memᴰ
 use mathlib.Core.List.{List, [], ◌∷◌, ◌++◌}
 use Prim.Native.Nat.{ℕ, zero, suc, ◌+◌, ◌<◌, ◌≤◌}
@@ -14,10 +16,6 @@ use borrow.Author.Tests.{eqb-true, eqb-false, leb-true, le-leb, eq-eqb}
 use lib.Dec.{eqb}
 use lib.ListN.{length, set, replicate, length-set, length-append, length-replicate, get_or-append}
 use lib.Seq.{set_out, get_or-append_seam, get_or-set_same, get_or-set_other}
-use Rattle.model.specs.declared.CostBound.{CostBound}
-use Rattle.model.specs.declared.KnownLen.{KnownLen}
-use Rattle.model.specs.declared.Solution.{Solution}
-use Rattle.model.specs.declared.Solution.TheVariants.{Unsolved, At}
 use Rattle.model.specs.declared.Search.{Search}
 use Rattle.model.specs.Lists.{mem}
 use Rattle.model.specs.Graph.{Domain, Accepted, absent, vertex_count, initial_cost}
@@ -83,17 +81,17 @@ module _ (d : Domain) (ts : List Tree) (ok : SoundTrees d ts) (i : ℕ) (u : Tre
 
 -- ---- steps, with any record
 
-pub turn-keeps : (d : Domain) → Accepted d.graph → (gs : List ℕ) (b : CostBound) (t : Tree) (known : KnownLen) → Sound d t
+pub turn-keeps : (d : Domain) → Accepted d.graph → (gs : List ℕ) (b : Option ℕ) (t : Tree) (known : Option ℕ) → Sound d t
     → Sound d (turn d gs b t known).tree × Later t (turn d gs b t known).tree
 unfolding turn
 turn-keeps d acc gs b t known ok = go (lookup d t gs known)
   where
-    go : (o : Solution) → Sound d (turn_by d gs b t o).tree × Later t (turn_by d gs b t o).tree
-    go Unsolved = let g = growing.grown d acc gs b t ok 10 in (g.sound, g.later)
-    go (At n) = (ok, later_refl t)
+    go : (o : Option ℕ) → Sound d (turn_by d gs b t o).tree × Later t (turn_by d gs b t o).tree
+    go None = let g = growing.grown d acc gs b t ok 10 in (g.sound, g.later)
+    go (Some n) = (ok, later_refl t)
 
 module _ (d : Domain) (acc : Accepted d.graph) where
-  pub turn-set : (ts : List Tree) (i : ℕ) (gs : List ℕ) (b : CostBound) (known : KnownLen) → SoundTrees d ts → Keeps d ts (set ts i (turn d gs b (tree ts i) known).tree)
+  pub turn-set : (ts : List Tree) (i : ℕ) (gs : List ℕ) (b : Option ℕ) (known : Option ℕ) → SoundTrees d ts → Keeps d ts (set ts i (turn d gs b (tree ts i) known).tree)
   turn-set ts i gs b known ok = elim (dec_le (suc i) (length ts)) [
     | yes h ↦ let k = turn-keeps d acc gs b (tree ts i) known (ok.each i h) in set_keeps d ts ok i _ h k.0 k.1
     | no h ↦ subst (Keeps d ts) (sym (set_out ts i _ (omega (arith, lt_of_not-le h)))) (ok, all-refl ts)
@@ -189,52 +187,52 @@ pub record Sought (ts : List Tree) (v k i : ℕ) : Type 0 where
   pub starts : (tree ts place).start ≡ v
 
 abbrev pub seek_if : List Tree → ℕ → ℕ → Bool → Option ℕ
-seek_if ts v k b = elim b [ true ↦ some k | false ↦ seek ts v (suc k) ]
+seek_if ts v k b = elim b [ true ↦ Some k | false ↦ seek ts v (suc k) ]
 
-pub seek-some : (ts : List Tree) (v k i : ℕ) → seek ts v k ≡ some i → Sought ts v k i
+pub seek-some : (ts : List Tree) (v k i : ℕ) → seek ts v k ≡ Some i → Sought ts v k i
 unfolding seek
-seek-some [] v k i e = absurd (none-ne-some i e)
+seek-some [] v k i e = absurd (none-some i e)
 seek-some (t ∷ ts) v k i e = go (seek-some ts v (suc k) i) (eqb t.start v) refl e
   where
-    go : (seek ts v (suc k) ≡ some i → Sought ts v (suc k) i) → (b : Bool) → eqb t.start v ≡ b → seek_if ts v k b ≡ some i → Sought (t ∷ ts) v k i
+    go : (seek ts v (suc k) ≡ Some i → Sought ts v (suc k) i) → (b : Bool) → eqb t.start v ≡ b → seek_if ts v k b ≡ Some i → Sought (t ∷ ts) v k i
     go ih true p q = let z : k ≡ i = cc in record { place = 0; at = omega arith; inside = omega arith; starts = eqb-true _ _ p }
     go ih false p q = let r = ih q in record { place = suc r.place; at = omega (arith, r.at); inside = omega (arith, r.inside); starts = r.starts }
 
-pub seek-at : (ts : List Tree) (v i : ℕ) → seek ts v 0 ≡ some i → (i < length ts) × ((tree ts i).start ≡ v)
+pub seek-at : (ts : List Tree) (v i : ℕ) → seek ts v 0 ≡ Some i → (i < length ts) × ((tree ts i).start ≡ v)
 seek-at ts v i e =
     let r = seek-some ts v 0 i e in
     let p : i ≡ r.place = omega (arith, r.at) in
     (omega (arith, r.inside), rw p r.starts)
 
-pub seek-none : (ts : List Tree) (v k : ℕ) → seek ts v k ≡ none → (j : ℕ) → j < length ts → (tree ts j).start ≢ v
+pub seek-none : (ts : List Tree) (v k : ℕ) → seek ts v k ≡ None → (j : ℕ) → j < length ts → (tree ts j).start ≢ v
 unfolding seek
 seek-none [] v k e j h = absurd (omega arith)
 seek-none (t ∷ ts) v k e j h = go (seek-none ts v (suc k)) (eqb t.start v) refl e j h
   where
-    go : (seek ts v (suc k) ≡ none → (j : ℕ) → j < length ts → (tree ts j).start ≢ v) → (b : Bool) → eqb t.start v ≡ b → seek_if ts v k b ≡ none
+    go : (seek ts v (suc k) ≡ None → (j : ℕ) → j < length ts → (tree ts j).start ≢ v) → (b : Bool) → eqb t.start v ≡ b → seek_if ts v k b ≡ None
         → (j : ℕ) → j < suc (length ts) → (tree (t ∷ ts) j).start ≢ v
-    go ih true p q j h = absurd (none-ne-some k (sym q))
+    go ih true p q j h = absurd (none-some k (sym q))
     go ih false p q zero h = eqb-false _ _ p
     go ih false p q (suc j) h = ih q j (omega arith)
 
-pub seek-more : (ts us : List Tree) (v k i : ℕ) → seek ts v k ≡ some i → seek (ts ++ us) v k ≡ some i
+pub seek-more : (ts us : List Tree) (v k i : ℕ) → seek ts v k ≡ Some i → seek (ts ++ us) v k ≡ Some i
 unfolding seek
-seek-more [] us v k i e = absurd (none-ne-some i e)
+seek-more [] us v k i e = absurd (none-some i e)
 seek-more (t ∷ ts) us v k i e = go (seek-more ts us v (suc k) i) (eqb t.start v) e
   where
-    go : (seek ts v (suc k) ≡ some i → seek (ts ++ us) v (suc k) ≡ some i) → (b : Bool) → seek_if ts v k b ≡ some i → seek_if (ts ++ us) v k b ≡ some i
+    go : (seek ts v (suc k) ≡ Some i → seek (ts ++ us) v (suc k) ≡ Some i) → (b : Bool) → seek_if ts v k b ≡ Some i → seek_if (ts ++ us) v k b ≡ Some i
     go ih true q = q
     go ih false q = ih q
 
-pub seek-new : (ts : List Tree) (t : Tree) (v k : ℕ) → t.start ≡ v → seek ts v k ≡ none → seek (ts ++ (t ∷ [])) v k ≡ some (k + length ts)
+pub seek-new : (ts : List Tree) (t : Tree) (v k : ℕ) → t.start ≡ v → seek ts v k ≡ None → seek (ts ++ (t ∷ [])) v k ≡ Some (k + length ts)
 unfolding seek
-seek-new [] t v k h e = rw (eq-eqb t.start v h, seek) (ap some (omega arith))
+seek-new [] t v k h e = rw (eq-eqb t.start v h, seek) (ap Some (omega arith))
 seek-new (u ∷ ts) t v k h e = go (seek-new ts t v (suc k) h) (eqb u.start v) e
   where
-    go : (seek ts v (suc k) ≡ none → seek (ts ++ (t ∷ [])) v (suc k) ≡ some (suc k + length ts)) → (b : Bool) → seek_if ts v k b ≡ none
-        → seek_if (ts ++ (t ∷ [])) v k b ≡ some (k + suc (length ts))
-    go ih true q = absurd (none-ne-some k (sym q))
-    go ih false q = ih q ∙ ap some (omega arith)
+    go : (seek ts v (suc k) ≡ None → seek (ts ++ (t ∷ [])) v (suc k) ≡ Some (suc k + length ts)) → (b : Bool) → seek_if ts v k b ≡ None
+        → seek_if (ts ++ (t ∷ [])) v k b ≡ Some (k + suc (length ts))
+    go ih true q = absurd (none-some k (sym q))
+    go ih false q = ih q ∙ ap Some (omega arith)
 
 -- ---- opening a search
 
@@ -244,8 +242,8 @@ plant-keeps d ts v ok h = go (eqb (initial_cost d v) absent) refl (seek ts v 0) 
   where
     go : (b : Bool) → eqb (initial_cost d v) absent ≡ b → (o : Option ℕ) → seek ts v 0 ≡ o → Keeps d ts (plant d ts v b o).trees
     go true e o z = (ok, all-refl ts)
-    go false e (some i) z = (ok, all-refl ts)
-    go false e none z = snoc-keeps d ts (new_tree d v) ok (new-sound d v h (eqb-false _ _ e)) (unfold new_tree in (seek-none ts v 0 z))
+    go false e (Some i) z = (ok, all-refl ts)
+    go false e None z = snoc-keeps d ts (new_tree d v) ok (new-sound d v h (eqb-false _ _ e)) (unfold new_tree in (seek-none ts v 0 z))
 
 pub plants-keep : (d : Domain) (vs : List ℕ) (ts : List Tree) → SoundTrees d ts → ((v : ℕ) → mem v vs ≡ true → v < vertex_count d.graph) → Keeps d ts (plant_all d ts vs).trees
 unfolding plant_all
@@ -283,8 +281,8 @@ module _ (c : Cache) (acc : Accepted c.domain.graph) (ok : SoundCache c) where
   initialize-keeps ss gs = go (first_fault (initialize_faults c ss gs)) refl
     where
       go : (o : Option ℕ) → first_fault (initialize_faults c ss gs) ≡ o → KeptCache c (initialize_by o c ss gs).cache
-      go (some n) e = kept_refl c ok
-      go none e =
+      go (Some n) e = kept_refl c ok
+      go None e =
           let m = may-initialize c ss gs e in
           record {
             domain = refl;
@@ -308,8 +306,8 @@ module _ (c : Cache) (acc : Accepted c.domain.graph) (ok : SoundCache c) where
           }
 
       go : (o : Option ℕ) → KeptCache c (step_by o c s).cache
-      go (some n) = kept_refl c ok
-      go none = run s.exhausted
+      go (Some n) = kept_refl c ok
+      go None = run s.exhausted
 
 pub accepted-kept : (c c' : Cache) → KeptCache c c' → Accepted c.domain.graph → Accepted c'.domain.graph
 accepted-kept c c' k acc = subst (λ (d : Domain). Accepted d.graph) (sym k.domain) acc

@@ -2,6 +2,7 @@
 -- stays, and how many nodes, tickets and costs there can be.
 -- Assumes nothing.
 use mathlib.Core.Path.{◌≡◌, refl, sym, ap, ◌∙◌, subst}
+use Rattle.std.specs.declared.option.Option.{Option}
 use mathlib.Core.Logic.{◌⊎◌, inl, inr}
 use mathlib.Core.Bool.{Bool, true, false, not, true≢false}
 use mathlib.Core.List.{List, [], ◌∷◌, Memᴰ}
@@ -10,7 +11,6 @@ use native.Mathlib.Omega.{arith}
 use borrow.Author.Tests.{eqb-false}
 use lib.Dec.{eqb, eqb-suc-zero}
 use lib.ListN.{length, set, length-append}
-use Rattle.model.specs.declared.CostBound.{CostBound}
 use Rattle.model.specs.Lists.{mem}
 use Rattle.model.specs.Graph.{Domain, Accepted}
 use Rattle.model.specs.Tree.{Tree, Node, node, closed_at, evaluation, least, least_of, popped, expanded, Going, on, found, over, Growth, above, going_on, taken, ticket_of, ticket, grow}
@@ -56,7 +56,7 @@ count_set (x ∷ xs) (suc v) n h e = go (count_set xs v n (omega arith) e) (eqb 
     go ih false = ap suc ih
 
 -- what a ticket taken from t can come to
-module _ (d : Domain) (acc : Accepted d.graph) (goals : List ℕ) (b : CostBound) (t : Tree) (ok : Sound d t) where
+module _ (d : Domain) (acc : Accepted d.graph) (goals : List ℕ) (b : Option ℕ) (t : Tree) (ok : Sound d t) where
   abbrev Firsts : ℕ → Type 0
   Firsts n = (j : ℕ) → Memᴰ j t.waiting → evaluation t.nodes n ≤ evaluation t.nodes j
 
@@ -139,7 +139,7 @@ pub record Grew (d : Domain) (goals : List ℕ) (t₀ : Tree) (g : Growth) : Typ
 abbrev pub Moved : Growth → Type 0
 Moved g = (1 ≤ g.tickets) ⊎ (g.tree.waiting ≡ [])
 
-module _ (d : Domain) (acc : Accepted d.graph) (goals : List ℕ) (b : CostBound) (t₀ : Tree) where
+module _ (d : Domain) (acc : Accepted d.graph) (goals : List ℕ) (b : Option ℕ) (t₀ : Tree) where
   module _ (t : Tree) (k : ℕ) (r : Grew d goals t₀ (record { tree = t; tickets = k; going = on })) where
     grew-dry : t.waiting ≡ [] → Grew d goals t₀ (record { tree = t; tickets = k; going = over })
     grew-dry e = record { sound = r.sound; later = r.later; tickets = r.tickets; gone = r.gone }

@@ -1,9 +1,10 @@
 -- What opening a search gives: one entry for each root that may start, and the trees that are its own.
 -- Assumes nothing.
 use mathlib.Core.Path.{◌≡◌, refl, sym, ap, ◌∙◌, subst}
+use Rattle.std.specs.declared.option.Option.{Option}
+use Rattle.std.specs.Prelude.{None, Some}
 use mathlib.Core.Logic.{◌⊎◌, inl, inr, ◌≢◌}
 use mathlib.Core.Bool.{Bool, true, false, not, ◌||◌, true≢false}
-use mathlib.Core.Option.{Option, none, some}
 use mathlib.Core.List.Memᴰ
 use mathlib.Core.List.{List, [], ◌∷◌, ◌++◌, Memᴰ, map, append-nil, append_assoc}
 use Prim.Native.Nat.{ℕ, zero, suc, ◌-◌, ◌<◌, ◌≤◌}
@@ -12,7 +13,6 @@ use borrow.Author.Tests.{eqb-true, eqb-false, not-true}
 use lib.Dec.{eqb}
 use lib.ListN.{length, get_or, replicate, length-append, length-replicate, length-map, get_or-append}
 use lib.Seq.{take-append_seam}
-use Rattle.model.specs.declared.CostBound.TheVariants.{Unbounded}
 use Rattle.model.specs.declared.TreeMemory.{TreeMemory}
 use Rattle.model.specs.declared.Search.{Search}
 use Rattle.model.specs.Lists.{keep, mem, all_below}
@@ -38,14 +38,14 @@ pub record Rooted (d : Domain) (vs : List ℕ) (ts : List Tree) (e : TreeMemory)
   pub v : ℕ
   pub root : mem v vs ≡ true
   pub allowed : Allowed d v
-  pub at : seek ts v 0 ≡ some e.tree
+  pub at : seek ts v 0 ≡ Some e.tree
   pub is : e ≡ entry_of e.tree
 
 -- an entry whose tree starts at v
 pub record EntryFor (ts : List Tree) (es : List TreeMemory) (v : ℕ) : Type 0 where
   pub j : ℕ
   pub inside : j < length es
-  pub at : seek ts v 0 ≡ some (get_or es j blank).tree
+  pub at : seek ts v 0 ≡ Some (get_or es j blank).tree
 
 pub record Opens (d : Domain) (ts : List Tree) (vs : List ℕ) (p : Planted) : Type 0 where
   pub more : (us : List Tree) × (p.trees ≡ ts ++ us)
@@ -56,7 +56,7 @@ pub record Opens (d : Domain) (ts : List Tree) (vs : List ℕ) (p : Planted) : T
 -- one root: skipped, or with an entry
 data One (d : Domain) (ts : List Tree) (v : ℕ) : List Tree → List TreeMemory → Type 0 where
   skips : initial_cost d v ≡ absent → One d ts v ts []
-  enters : (us : List Tree) (i : ℕ) → Allowed d v → seek (ts ++ us) v 0 ≡ some i → One d ts v (ts ++ us) (entry_of i ∷ [])
+  enters : (us : List Tree) (i : ℕ) → Allowed d v → seek (ts ++ us) v 0 ≡ Some i → One d ts v (ts ++ us) (entry_of i ∷ [])
 
 one : (d : Domain) (ts : List Tree) (v : ℕ) → let p = plant d ts v (eqb (initial_cost d v) absent) (seek ts v 0) in One d ts v p.trees p.entries
 unfolding plant
@@ -64,8 +64,8 @@ one d ts v = go (eqb (initial_cost d v) absent) refl (seek ts v 0) refl
   where
     go : (b : Bool) → eqb (initial_cost d v) absent ≡ b → (o : Option ℕ) → seek ts v 0 ≡ o → One d ts v (plant d ts v b o).trees (plant d ts v b o).entries
     go true e o z = skips (eqb-true _ _ e)
-    go false e (some i) z = subst (λ (us : List Tree). One d ts v us (entry_of i ∷ [])) (append-nil ts) (enters [] i (eqb-false _ _ e) (rw (append-nil ts) z))
-    go false e none z = enters (new_tree d v ∷ []) (length ts) (eqb-false _ _ e) (seek-new ts (new_tree d v) v 0 (unfold new_tree in refl) z ∙ ap some (omega arith))
+    go false e (Some i) z = subst (λ (us : List Tree). One d ts v us (entry_of i ∷ [])) (append-nil ts) (enters [] i (eqb-false _ _ e) (rw (append-nil ts) z))
+    go false e None z = enters (new_tree d v ∷ []) (length ts) (eqb-false _ _ e) (seek-new ts (new_tree d v) v 0 (unfold new_tree in refl) z ∙ ap Some (omega arith))
 
 pub opens : (d : Domain) (vs : List ℕ) (ts : List Tree) → Opens d ts vs (plant_all d ts vs)
 unfolding plant_all
@@ -98,7 +98,7 @@ opens d (v ∷ vs) ts =
           short = omega (arith, R.short);
         }
       where
-        stays : seek r.trees v 0 ≡ some i
+        stays : seek r.trees v 0 ≡ Some i
         stays = rw R.more.1 (seek-more (ts ++ us) R.more.0 v 0 i z)
 
         all : (j : ℕ) → j < suc (length r.entries) → Rooted d (v ∷ vs) r.trees (get_or (entry_of i ∷ r.entries) j blank)
@@ -158,13 +158,13 @@ map-from f (x ∷ xs) y (Memᴰ.tail m) = let r = map-from f xs y m in (r.0, Mem
 -- ---- the search's own trees
 
 or_zero : Option ℕ → ℕ
-or_zero none = 0
-or_zero (some i) = i
+or_zero None = 0
+or_zero (Some i) = i
 
 index : List Tree → ℕ → ℕ
 index ts v = or_zero (seek ts v 0)
 
-index_is : (ts : List Tree) (v i : ℕ) → seek ts v 0 ≡ some i → i ≡ index ts v
+index_is : (ts : List Tree) (v i : ℕ) → seek ts v 0 ≡ Some i → i ≡ index ts v
 unfolding index or_zero
 index_is ts v i e = rw e
 
@@ -202,7 +202,7 @@ module _ (d : Domain) (vs gs : List ℕ) (ts : List Tree) (few : length vs ≤ 6
       let a = seek-at us r.0 (get_or es f.j blank).tree f.at in
       record { inside = omega (arith, a.0); root = rw (z, a.1) p.0; allowed = rw (z, a.1) (true-allowed d r.0 p.1) }
 
-  opened-entry : (e : TreeMemory) → Rooted d vs us e → EntryOk (λ i. Memᴰ i (slots_of d us vs)) d gs us Unbounded e
+  opened-entry : (e : TreeMemory) → Rooted d vs us e → EntryOk (λ i. Memᴰ i (slots_of d us vs)) d gs us None e
   unfolding slots_of
   opened-entry e k =
       record {
@@ -230,8 +230,8 @@ module _ (d : Domain) (vs gs : List ℕ) (ts : List Tree) (few : length vs ≤ 6
         key_counts = few_goals;
         below = rw opened-goals below;
         entries = λ j h.
-            subst (λ (x : List ℕ). EntryOk (λ i. Memᴰ i (slots_of d us vs)) d x us Unbounded (entry new j)) (sym opened-goals)
-            (subst (EntryOk (λ i. Memᴰ i (slots_of d us vs)) d gs us Unbounded) (sym (entry-is j h)) (opened-entry (get_or es j blank) (R.entries j h)));
+            subst (λ (x : List ℕ). EntryOk (λ i. Memᴰ i (slots_of d us vs)) d x us None (entry new j)) (sym opened-goals)
+            (subst (EntryOk (λ i. Memᴰ i (slots_of d us vs)) d gs us None) (sym (entry-is j h)) (opened-entry (get_or es j blank) (R.entries j h)));
         best = tt;
       }
 

@@ -1,10 +1,11 @@
 -- The reference's maps of trees, pushed nodes, openings and lookups are the definitions': trees by their slots, solutions by their nodes.
 -- Assumes nothing.
 use mathlib.Core.Path.{◌≡◌, refl, sym, ap, ap₂, ◌∙◌}
+use Rattle.std.specs.declared.option.Option.{Option}
+use Rattle.std.specs.Prelude.{None, Some}
 use mathlib.Core.Logic.{◌≢◌}
 use mathlib.Core.Bool.{Bool, true, false}
 use mathlib.Core.List.{List, [], ◌∷◌, ◌++◌, map, map-append}
-use mathlib.Core.Option.{Option, none, some}
 use Prim.Native.Nat.{ℕ, zero, suc, ◌+◌, ◌-◌, ◌<◌}
 use native.Mathlib.Nat.{lt_of_not-le}
 use native.Mathlib.Decide.{dec_le, ℕ_discrete}
@@ -13,10 +14,6 @@ use borrow.Author.Tests.{eqb-true, eqb-false, eq-eqb, ne_eqb, ltb-true, ltb-fals
 use lib.Dec.{eqb, leb, ltb}
 use lib.ListN.{length, get_or, set, replicate, length-append, get_or-append}
 use lib.Seq.{take-append_seam, get_or-append_seam}
-use Rattle.model.specs.declared.KnownLen.{KnownLen}
-use Rattle.model.specs.declared.KnownLen.TheVariants.{Never, Len}
-use Rattle.model.specs.declared.Solution.{Solution}
-use Rattle.model.specs.declared.Solution.TheVariants.{Unsolved, At}
 use Rattle.model.specs.declared.TreeMemory.{TreeMemory}
 use Rattle.model.specs.Graph.{Domain, Direction, forward, backward, absent, vertex_count, cost, to, choices, initial_cost}
 use Rattle.model.specs.Worth.{solution_cost_of}
@@ -25,7 +22,7 @@ use Rattle.model.specs.Tree as trees
 use Rattle.model.specs.Sound.{no_tree, tree, SoundTrees}
 use Rattle.model.specs.Search.{closed_count, remembers, chosen, consider, cheapest, lookup_if, lookup, seek, Planted, entry_of, plant, plant_all, roots_of, goals_of, new_search, blank}
 use Rattle.model.specs.SimpleGraph.{edges_from_vertex}
-use Rattle.model.specs.Reference.{cost_of, Path, TreeEntry, retrace_node, status_of_word, status_for_key, rejects, push_unless, push_node, get, put, entry_at, planted_tree, Opening, opening, openings, Opened, forward_initialize, initialize_in, initialize, path_if, look_at, look_goals, same_len, look_unless, text_graph, push_choices, read_known, read_solution, read_entry, read_memory}
+use Rattle.model.specs.Reference.{cost_of, Path, TreeEntry, retrace_node, status_of_word, status_for_key, rejects, push_unless, push_node, get, put, entry_at, planted_tree, Opening, opening, openings, Opened, forward_initialize, initialize_in, initialize, path_if, look_at, look_goals, same_len, look_unless, text_graph, push_choices, read_solution, read_entry, read_memory}
 use Rattle.model.proofs.Worth.{evaluation-cost, solution-costs}
 use Rattle.model.proofs.Reversed.{domain-cost}
 use Rattle.model.proofs.Rows.{target_of, rows-held}
@@ -63,7 +60,7 @@ differ-tail t ts f i j h k e = let z : suc i ≡ suc j = f (suc i) (suc j) (omeg
 differ-head : (t : Tree) (ts : List Tree) → Differ (t ∷ ts) → (i : ℕ) → i < length ts → t.start ≢ (tree ts i).start
 differ-head t ts f i h e = let z : 0 ≡ suc i = f 0 (suc i) (omega arith) (omega arith) e in omega arith
 
-get-same : (t : Tree) (ts : List Tree) (v : ℕ) → t.start ≡ v → get (t ∷ ts) v ≡ some t
+get-same : (t : Tree) (ts : List Tree) (v : ℕ) → t.start ≡ v → get (t ∷ ts) v ≡ Some t
 unfolding get
 get-same t ts v e = rw (eq-eqb t.start v e, get)
 
@@ -79,7 +76,7 @@ put_other : (t : Tree) (ts : List Tree) (v : ℕ) (u : Tree) → t.start ≢ v �
 unfolding put
 put_other t ts v u e = rw (ne_eqb t.start v e, put)
 
-get_at : (ts : List Tree) → Differ ts → (i : ℕ) → i < length ts → get ts (tree ts i).start ≡ some (tree ts i)
+get_at : (ts : List Tree) → Differ ts → (i : ℕ) → i < length ts → get ts (tree ts i).start ≡ Some (tree ts i)
 get_at [] f i h = absurd (omega arith)
 get_at (t ∷ ts) f zero h = get-same t ts t.start refl
 get_at (t ∷ ts) f (suc i) h = get_other t ts _ (differ-head t ts f i (omega arith)) ∙ get_at ts (differ-tail t ts f) i (omega arith)
@@ -90,27 +87,27 @@ put-at (t ∷ ts) u f zero h = put_same t ts t.start u refl
 put-at (t ∷ ts) u f (suc i) h = put_other t ts _ u (differ-head t ts f i (omega arith)) ∙ ap (λ (r : List Tree). t ∷ r) (put-at ts u (differ-tail t ts f) i (omega arith))
 
 module _ (d : Domain) (ts : List Tree) (ok : SoundTrees d ts) (i : ℕ) (h : i < length ts) where
-  pub get-is : get ts (tree ts i).start ≡ some (tree ts i)
+  pub get-is : get ts (tree ts i).start ≡ Some (tree ts i)
   get-is = get_at ts ok.differ i h
 
   pub put_is : (u : Tree) → put ts (tree ts i).start u ≡ set ts i u
   put_is u = put-at ts u ok.differ i h
 
-get-some : (ts : List Tree) (v i : ℕ) → i < length ts → (tree ts i).start ≡ v → (t : Tree) × (get ts v ≡ some t)
+get-some : (ts : List Tree) (v i : ℕ) → i < length ts → (tree ts i).start ≡ v → (t : Tree) × (get ts v ≡ Some t)
 get-some [] v i h e = absurd (omega arith)
 get-some (t ∷ ts) v zero h e = (t, get-same t ts v e)
 get-some (t ∷ ts) v (suc i) h e = go (get-some ts v i (omega arith) e) (ℕ_discrete t.start v)
   where
-    go : (u : Tree) × (get ts v ≡ some u) → Dec (t.start ≡ v) → (u : Tree) × (get (t ∷ ts) v ≡ some u)
+    go : (u : Tree) × (get ts v ≡ Some u) → Dec (t.start ≡ v) → (u : Tree) × (get (t ∷ ts) v ≡ Some u)
     go r (yes z) = (t, get-same t ts v z)
     go r (no z) = (r.0, get_other t ts v z ∙ r.1)
 
-unplanted-get : (ts : List Tree) (v : ℕ) → Unplanted ts v → get ts v ≡ none
+unplanted-get : (ts : List Tree) (v : ℕ) → Unplanted ts v → get ts v ≡ None
 unfolding get
 unplanted-get [] v f = refl
 unplanted-get (t ∷ ts) v f = get_other t ts v (f 0 (omega arith)) ∙ unplanted-get ts v (λ i h. f (suc i) (omega arith))
 
-pub seek-missing : (ts : List Tree) (v : ℕ) → seek ts v 0 ≡ none → get ts v ≡ none
+pub seek-missing : (ts : List Tree) (v : ℕ) → seek ts v 0 ≡ None → get ts v ≡ None
 seek-missing ts v e = unplanted-get ts v (seek-none ts v 0 e)
 
 -- ---- pushed nodes
@@ -160,8 +157,8 @@ snoc-extends ts t i h = (omega (arith, length-append ts (t ∷ [])), get_or-appe
 plant-extends : (d : Domain) (ts : List Tree) (v : ℕ) (b : Bool) (o : Option ℕ) → Extends ts (plant d ts v b o).trees
 unfolding plant
 plant-extends d ts v true o = λ i h. (h, refl)
-plant-extends d ts v false (some j) = λ i h. (h, refl)
-plant-extends d ts v false none = snoc-extends ts (new_tree d v)
+plant-extends d ts v false (Some j) = λ i h. (h, refl)
+plant-extends d ts v false None = snoc-extends ts (new_tree d v)
 
 plants-extend : (d : Domain) (vs : List ℕ) (ts : List Tree) → Extends ts (plant_all d ts vs).trees
 unfolding plant_all
@@ -199,19 +196,19 @@ module _ (d : Domain) (ts : List Tree) (v : ℕ) (ok : AllAllowed d ts) where
     where
       go : (b : Bool) → eqb (initial_cost d v) absent ≡ b → (o : Option ℕ) → seek ts v 0 ≡ o → Extends (plant d ts v b o).trees us
           → opening d ts v (get ts v) b ≡ read_planted us (plant d ts v b o)
-      go b e (some i) z x =
+      go b e (Some i) z x =
           let s = seek-at ts v i z in
           let g = get-some ts v i s.0 s.1 in
           occupied g.0 g.1 i s.0 s.1 b e x
         where
-          occupied : (t : Tree) → get ts v ≡ some t → (i : ℕ) → i < length ts → (tree ts i).start ≡ v → (b : Bool) → eqb (initial_cost d v) absent ≡ b
-              → Extends (plant d ts v b (some i)).trees us → opening d ts v (get ts v) b ≡ read_planted us (plant d ts v b (some i))
+          occupied : (t : Tree) → get ts v ≡ Some t → (i : ℕ) → i < length ts → (tree ts i).start ≡ v → (b : Bool) → eqb (initial_cost d v) absent ≡ b
+              → Extends (plant d ts v b (Some i)).trees us → opening d ts v (get ts v) b ≡ read_planted us (plant d ts v b (Some i))
           occupied t g i h s true e x = absurd (ok i h (ap (initial_cost d) s ∙ eqb-true _ _ e))
           occupied t g i h s false e x =
               ap (λ (o : Option Tree). opening d ts v o false) g
               ∙ ap (λ (y : TreeEntry). record { trees = ts; entries = y ∷ [] }) (entry-at us i v (ap (λ (t : Tree). t.start) (x i h).1 ∙ s))
-      go true e none z x = ap (λ (o : Option Tree). opening d ts v o true) (seek-missing ts v z)
-      go false e none z x =
+      go true e None z x = ap (λ (o : Option Tree). opening d ts v o true) (seek-missing ts v z)
+      go false e None z x =
           let last : length ts < length (ts ++ (new_tree d v ∷ [])) = omega (arith, length-append ts (new_tree d v ∷ [])) in
           ap (λ (o : Option Tree). opening d ts v o false) (seek-missing ts v z)
           ∙ ap₂ (λ (t : Tree) (y : TreeEntry). record { trees = ts ++ (t ∷ []); entries = y ∷ [] }) (planted-is d v)
@@ -223,8 +220,8 @@ module _ (d : Domain) (ts : List Tree) (v : ℕ) (ok : AllAllowed d ts) where
     where
       go : (b : Bool) → eqb (initial_cost d v) absent ≡ b → (o : Option ℕ) → AllAllowed d (plant d ts v b o).trees
       go true e o = ok
-      go false e (some i) = ok
-      go false e none = λ i h. elim (dec_le (suc i) (length ts)) [
+      go false e (Some i) = ok
+      go false e None = λ i h. elim (dec_le (suc i) (length ts)) [
         | yes k ↦ rw (get_or-append ts (new_tree d v ∷ []) no_tree i k) (ok i k)
         | no k ↦
             let z : i ≡ length ts = omega (arith, lt_of_not-le k, length-append ts (new_tree d v ∷ [])) in
@@ -262,9 +259,9 @@ module _ (d : Domain) (ts : List Tree) (ok : SoundTrees d ts) where
   unfolding forward_initialize read_memory
   forward-is vs gs =
       let p : Planted = plant_all d ts vs in
-      ap (λ (o : Opening). record { trees = o.trees; memory = record { trees = o.entries; goal_keys = gs; best_solution = none; exhausted = false } })
+      ap (λ (o : Opening). record { trees = o.trees; memory = record { trees = o.entries; goal_keys = gs; best_solution = None; exhausted = false } })
       (openings-is d vs ts (all-allowed d ts ok))
-      ∙ ap₂ (λ (es : List TreeMemory) (ks : List ℕ). record { trees = p.trees; memory = record { trees = map (read_entry p.trees) es; goal_keys = ks; best_solution = none; exhausted = false } })
+      ∙ ap₂ (λ (es : List TreeMemory) (ks : List ℕ). record { trees = p.trees; memory = record { trees = map (read_entry p.trees) es; goal_keys = ks; best_solution = None; exhausted = false } })
       (sym (take-append_seam p.entries (replicate (64 - length p.entries) blank)))
       (sym (take-append_seam gs (replicate (64 - length gs) 0)))
 
@@ -281,11 +278,11 @@ module _ (d : Domain) (ts : List Tree) (ok : SoundTrees d ts) where
 -- ---- the lookup
 
 module _ (d : Domain) (ns : List Node) where
-  consider-is : (o : Solution) (w : ℕ) → look_at ns (read_solution ns o) (status_of_word w) ≡ read_solution ns (consider d ns o w)
+  consider-is : (o : Option ℕ) (w : ℕ) → look_at ns (read_solution ns o) (status_of_word w) ≡ read_solution ns (consider d ns o w)
   consider-is o zero = refl
-  consider-is Unsolved (suc i) = refl
-  consider-is (At j) (suc i) =
-      ap (λ (k : ℕ). path_if (leb k (cost_of x)) (some (retrace_node ns j)) (retrace_node ns i)) (retrace-cost ns j)
+  consider-is None (suc i) = refl
+  consider-is (Some j) (suc i) =
+      ap (λ (k : ℕ). path_if (leb k (cost_of x)) (Some (retrace_node ns j)) (retrace_node ns i)) (retrace-cost ns j)
       ∙ go (ltb (solution_cost_of d x) (solution_cost_of d y)) refl
     where
       x : Node
@@ -295,27 +292,27 @@ module _ (d : Domain) (ns : List Node) where
       y = node ns j
 
       go : (b : Bool) → ltb (solution_cost_of d x) (solution_cost_of d y) ≡ b
-          → path_if (leb (cost_of y) (cost_of x)) (some (retrace_node ns j)) (retrace_node ns i) ≡ read_solution ns (chosen b i j)
+          → path_if (leb (cost_of y) (cost_of x)) (Some (retrace_node ns j)) (retrace_node ns i) ≡ read_solution ns (chosen b i j)
       go true e = rw (lt-leb (cost_of y) (cost_of x) (omega (arith, ltb-true (solution_cost_of d x) (solution_cost_of d y) e, solution-costs d x, solution-costs d y)))
       go false e = rw (le-leb (cost_of y) (cost_of x) (omega (arith, ltb-false (solution_cost_of d x) (solution_cost_of d y) e, solution-costs d x, solution-costs d y)))
 
-  cheapest-is : (t : Tree) → t.nodes ≡ ns → (vs : List ℕ) (o : Solution) → look_goals t vs (read_solution ns o) ≡ read_solution ns (cheapest d ns t.closed vs o)
+  cheapest-is : (t : Tree) → t.nodes ≡ ns → (vs : List ℕ) (o : Option ℕ) → look_goals t vs (read_solution ns o) ≡ read_solution ns (cheapest d ns t.closed vs o)
   unfolding look_goals cheapest
   cheapest-is t z [] o = refl
   cheapest-is t z (v ∷ vs) o =
       ap (λ (p : Option Path). look_goals t vs p) (ap (λ (us : List Node). look_at us (read_solution ns o) (status_for_key t v)) z ∙ consider-is o (closed_at t.closed v))
       ∙ cheapest-is t z vs (consider d ns o (closed_at t.closed v))
 
-same_len_lem : (known : KnownLen) (n : ℕ) → same_len (read_known known) n ≡ remembers known n
-same_len_lem Never n = refl
-same_len_lem (Len k) n = refl
+same_len_lem : (known : Option ℕ) (n : ℕ) → same_len known n ≡ remembers known n
+same_len_lem None n = refl
+same_len_lem (Some k) n = refl
 
-pub look_is : (d : Domain) (t : Tree) (gs : List ℕ) (known : KnownLen)
-    → look_unless (same_len (read_known known) (closed_count t.closed)) t gs ≡ read_solution t.nodes (lookup d t gs known)
+pub look_is : (d : Domain) (t : Tree) (gs : List ℕ) (known : Option ℕ)
+    → look_unless (same_len known (closed_count t.closed)) t gs ≡ read_solution t.nodes (lookup d t gs known)
 unfolding lookup
 look_is d t gs known =
     ap (λ (b : Bool). look_unless b t gs) (same_len_lem known (closed_count t.closed)) ∙ go (remembers known (closed_count t.closed))
   where
     go : (b : Bool) → look_unless b t gs ≡ read_solution t.nodes (lookup_if b d t.nodes t.closed gs)
     go true = refl
-    go false = cheapest-is d t.nodes t refl gs Unsolved
+    go false = cheapest-is d t.nodes t refl gs None

@@ -1,38 +1,34 @@
 -- The reference's turns over the entries of a search are the definitions' rounds.
 -- Assumes nothing.
 use mathlib.Core.Path.{◌≡◌, refl, sym, ap, ap₂, ◌∙◌, subst}
+use Rattle.std.specs.declared.option.Option.{Option}
+use Rattle.std.specs.Prelude.{None, Some}
 use mathlib.Core.Logic.{inl, inr, ◌≢◌}
 use mathlib.Core.Bool.{Bool, true, false}
 use mathlib.Core.List.{List, map}
-use mathlib.Core.Option.{Option, some}
 use Prim.Native.Nat.{ℕ, zero, suc, ◌+◌, ◌<◌, ◌≤◌}
 use native.Mathlib.Decide.{ℕ_discrete}
 use native.Mathlib.Omega.{arith}
 use lib.Dec.{ltb}
 use lib.ListN.{length, get_or, set, length-set}
 use lib.Seq.{get_or-set_same, get_or-set_other, take-set-lt}
-use Rattle.model.specs.declared.CostBound.{CostBound}
-use Rattle.model.specs.declared.KnownLen.{KnownLen}
-use Rattle.model.specs.declared.Solution.{Solution}
-use Rattle.model.specs.declared.Solution.TheVariants.{Unsolved, At}
 use Rattle.model.specs.declared.BestSolution.{BestSolution}
-use Rattle.model.specs.declared.BestSolution.TheVariants.{NoBest, Best}
 use Rattle.model.specs.declared.TreeMemory.{TreeMemory}
 use Rattle.model.specs.declared.Search.{Search}
 use Rattle.model.specs.Graph.{Domain, Accepted}
 use Rattle.model.specs.Tree.{Tree, Node, node}
 use Rattle.model.specs.Sound.{no_tree, tree, Sound, SoundTrees}
-use Rattle.model.specs.Search.{blank, entry, entries, goals, closed_count, dearer, cheaper, best_if, bound_of, bound, solution_cost, Turn, turn, Walk, round, rounds}
-use Rattle.model.specs.Reference.{Path, TreeEntry, no_entry, Memory, get, put, or_no_tree, retrace_node, cost_bound, TurnEnd, turn_end, same_len, look_unless, exhausted_unless, prior_cheaper, best_when, best_after, best_unless, best_turn, solution_unless, solution_turn, Stepping, turn_of, turns_of, read_known, read_solution, read_entry, read_best, read_memory}
+use Rattle.model.specs.Search.{blank, entry, entries, goals, closed_count, dearer, cheaper, best_if, bound_of, bound, solution_cost, Turn, turn, Walk, round, rounds, as_best}
+use Rattle.model.specs.Reference.{Path, TreeEntry, no_entry, Memory, get, put, or_no_tree, retrace_node, cost_bound, TurnEnd, turn_end, same_len, look_unless, exhausted_unless, prior_cheaper, best_when, best_after, best_unless, best_turn, solution_unless, solution_turn, Stepping, turn_of, turns_of, read_solution, read_entry, read_best, read_memory}
 use Rattle.model.proofs.Worth.{solution-costs}
 use Rattle.model.proofs.Later.{Later}
 use Rattle.model.proofs.Turns.{hold-from}
 use Rattle.model.proofs.Recorded as recorded
-use Rattle.model.proofs.Recorded.{known_after, hold_if, hold, best_by, entry_after, after, slot_kept, round-after, round-count}
+use Rattle.model.proofs.Recorded.{entry_of_best, node_of_best, known_after, hold_if, hold, best_by, entry_after, after, slot_kept, round-after, round-count}
 use Rattle.model.proofs.Keeps.{AllLater, turn-keeps, turn-set, round_keeps}
 use Rattle.model.proofs.Retraced.{retrace-cost}
 use Rattle.model.proofs.Refines.{map-set, get-is, put_is}
-use Rattle.model.proofs.RefinesGrow.{read_bound, read_turn, turn_is}
+use Rattle.model.proofs.RefinesGrow.{read_turn, turn_is}
 use Rattle.model.proofs.RefinesRead.{Readable, find-in, solution-later, entries-later, best-later, read-place}
 
 -- ---- what is held after a find
@@ -42,13 +38,13 @@ module _ (d : Domain) (ns : List Node) where
   retraced : (n : ℕ) → (retrace_node ns n).total_cost ≡ solution_cost d ns n
   retraced n = retrace-cost ns n ∙ sym (solution-costs d (node ns n))
 
-  dearer-is : (n : ℕ) (h : Solution) → prior_cheaper (read_solution ns h) (retrace_node ns n) ≡ dearer d ns n h
-  dearer-is n Unsolved = refl
-  dearer-is n (At m) = ap₂ ltb (retraced m) (retraced n)
+  dearer-is : (n : ℕ) (h : Option ℕ) → prior_cheaper (read_solution ns h) (retrace_node ns n) ≡ dearer d ns n h
+  dearer-is n None = refl
+  dearer-is n (Some m) = ap₂ ltb (retraced m) (retraced n)
 
-  hold-is : (h f : Solution) → solution_turn (read_solution ns h) (read_solution ns f) ≡ read_solution ns (hold d ns h f)
-  hold-is h Unsolved = refl
-  hold-is h (At n) = ap (λ (q : Bool). solution_unless q (read_solution ns h) (retrace_node ns n)) (dearer-is n h) ∙ go (dearer d ns n h)
+  hold-is : (h f : Option ℕ) → solution_turn (read_solution ns h) (read_solution ns f) ≡ read_solution ns (hold d ns h f)
+  hold-is h None = refl
+  hold-is h (Some n) = ap (λ (q : Bool). solution_unless q (read_solution ns h) (retrace_node ns n)) (dearer-is n h) ∙ go (dearer d ns n h)
     where
       go : (q : Bool) → solution_unless q (read_solution ns h) (retrace_node ns n) ≡ read_solution ns (hold_if q h n)
       go true = refl
@@ -72,16 +68,16 @@ turn_leaves i ts m x y =
       };
     }
 
-turn-of : (d : Domain) (i : ℕ) (ts : List Tree) (m : Memory) (x : TreeEntry) (t : Tree) → get_or m.trees i no_entry ≡ x → get ts x.key ≡ some t
+turn-of : (d : Domain) (i : ℕ) (ts : List Tree) (m : Memory) (x : TreeEntry) (t : Tree) → get_or m.trees i no_entry ≡ x → get ts x.key ≡ Some t
     → turn_of d i (record { trees = ts; memory = m }) ≡ turn_leaves i ts m x (turn_ends d m x t)
 unfolding turn_of
 turn-of d i ts m x t p q =
     ap (λ (y : TreeEntry). turn_leaves i ts m y (turn_ends d m y (or_no_tree (get ts y.key)))) p
     ∙ ap (λ (o : Option Tree). turn_leaves i ts m x (turn_ends d m x (or_no_tree o))) q
 
-bound-is : (d : Domain) (ts : List Tree) (s : Search) (o : BestSolution) → cost_bound (read_best d ts s o) ≡ read_bound (bound_of d ts s o)
-bound-is d ts s NoBest = refl
-bound-is d ts s (Best i n) = refl
+bound-is : (d : Domain) (ts : List Tree) (s : Search) (o : Option BestSolution) → cost_bound (read_best d ts s o) ≡ (bound_of d ts s o)
+bound-is d ts s None = refl
+bound-is d ts s (Some b) = refl
 
 -- a search and its trees, read as what the reference's turns hand on
 abbrev pub read_stepping : Domain → List Tree → Search → Stepping
@@ -96,7 +92,7 @@ module _ (d : Domain) (acc : Accepted d.graph) (ts : List Tree) (s : Search) (i 
   abbrev t : Tree
   t = tree ts e.tree
 
-  abbrev b : CostBound
+  abbrev b : Option ℕ
   b = bound d ts s
 
   abbrev u : Turn
@@ -108,7 +104,7 @@ module _ (d : Domain) (acc : Accepted d.graph) (ts : List Tree) (s : Search) (i 
   abbrev ts' : List Tree
   ts' = set ts e.tree u.tree
 
-  abbrev known' : KnownLen
+  abbrev known' : Option ℕ
   known' = known_after e.last_known_closed_len u.known
 
   abbrev s' : Search
@@ -140,10 +136,10 @@ module _ (d : Domain) (acc : Accepted d.graph) (ts : List Tree) (s : Search) (i 
 
   -- ---- it can be read
 
-  held_in : (n : ℕ) → e.solution ≡ At n → n < length ns'
+  held_in : (n : ℕ) → e.solution ≡ Some n → n < length ns'
   held_in n z = omega (arith, r.held i n h z, later-u.longer)
 
-  hold-in : (n : ℕ) → hold d ns' e.solution u.find ≡ At n → n < length ns'
+  hold-in : (n : ℕ) → hold d ns' e.solution u.find ≡ Some n → n < length ns'
   hold-in n z = elim (hold-from d ns' e.solution u.find n z) [
     | inl y ↦ held_in n y
     | inr y ↦ find-in d acc (goals s) b t e.last_known_closed_len sound-t n y
@@ -159,16 +155,16 @@ module _ (d : Domain) (acc : Accepted d.graph) (ts : List Tree) (s : Search) (i 
   in-new : (n : ℕ) → n < length ns' → In i n
   in-new n z = rw (slot-now i, now) z
 
-  best-in : (o : BestSolution) → s.best_solution ≡ o → (f : Solution) → u.find ≡ f
-      → (j n : ℕ) → recorded.best_after d ns' b e.solution o i f ≡ Best j n → (j < s.tree_count) × In j n
-  best-in o p Unsolved q j n z = let k = r.best j n (p ∙ z) in (k.0, in-old j n k.0 k.1)
-  best-in o p (At m) q j n z = go (dearer d ns' m e.solution) (cheaper (solution_cost d ns' m) b) z
+  best-in : (o : Option BestSolution) → s.best_solution ≡ o → (f : Option ℕ) → u.find ≡ f
+      → (j n : ℕ) → recorded.best_after d ns' b e.solution o i f ≡ as_best j n → (j < s.tree_count) × In j n
+  best-in o p None q j n z = let k = r.best j n (p ∙ z) in (k.0, in-old j n k.0 k.1)
+  best-in o p (Some m) q j n z = go (dearer d ns' m e.solution) (cheaper (solution_cost d ns' m) b) z
     where
-      go : (x y : Bool) → best_by x y o i m ≡ Best j n → (j < s.tree_count) × In j n
+      go : (x y : Bool) → best_by x y o i m ≡ as_best j n → (j < s.tree_count) × In j n
       go true y z = let k = r.best j n (p ∙ z) in (k.0, in-old j n k.0 k.1)
       go false true z =
-          let zi : i ≡ j = cc in
-          let zm : m ≡ n = cc in
+          let zi : i ≡ j = ap entry_of_best z in
+          let zm : m ≡ n = ap node_of_best z in
           subst (λ (x : ℕ). (x < s.tree_count) × In x n) zi (h, subst (λ (x : ℕ). In i x) zm (in-new m (find-in d acc (goals s) b t e.last_known_closed_len sound-t m q)))
       go false false z = let k = r.best j n (p ∙ z) in (k.0, in-old j n k.0 k.1)
 
@@ -178,7 +174,7 @@ module _ (d : Domain) (acc : Accepted d.graph) (ts : List Tree) (s : Search) (i 
         sized = omega (arith, r.sized, length-set s.trees i (entry_after d e u));
         slots = λ j k. rw (slot-now j) (omega (arith, r.slots j k, all-later.longer));
         held = λ j n k z. elim (ℕ_discrete j i) [
-          | yes y ↦ subst (λ (x : ℕ). In x n) (sym y) (in-new n (hold-in n (sym (ap (λ (x : TreeMemory). x.solution) entry-now) ∙ subst (λ (x : ℕ). (entry s' x).solution ≡ At n) y z)))
+          | yes y ↦ subst (λ (x : ℕ). In x n) (sym y) (in-new n (hold-in n (sym (ap (λ (x : TreeMemory). x.solution) entry-now) ∙ subst (λ (x : ℕ). (entry s' x).solution ≡ Some n) y z)))
           | no y ↦ in-old j n k (r.held j n k (sym (ap (λ (x : TreeMemory). x.solution) (entry_other j y)) ∙ z))
         ];
         best = λ j n z. best-in s.best_solution refl u.find refl j n z;
@@ -192,18 +188,18 @@ module _ (d : Domain) (acc : Accepted d.graph) (ts : List Tree) (s : Search) (i 
   entry-is : read_entry ts' (entry_after d e u)
       ≡ record {
         key = t.start;
-        last_known_closed_len = read_known known';
+        last_known_closed_len = known';
         solution = solution_turn (read_solution t.nodes e.solution) (read_solution ns' u.find);
       }
   unfolding read_entry
   entry-is =
-      ap (λ (x : Tree). record { key = x.start; last_known_closed_len = read_known known'; solution = read_solution x.nodes (hold d ns' e.solution u.find) }) now
-      ∙ ap₂ (λ (v : ℕ) (p : Option Path). record { key = v; last_known_closed_len = read_known known'; solution = p }) later-u.start
+      ap (λ (x : Tree). record { key = x.start; last_known_closed_len = known'; solution = read_solution x.nodes (hold d ns' e.solution u.find) }) now
+      ∙ ap₂ (λ (v : ℕ) (p : Option Path). record { key = v; last_known_closed_len = known'; solution = p }) later-u.start
       (sym (hold-is d ns' e.solution u.find) ∙ ap (λ (p : Option Path). solution_turn p (read_solution ns' u.find)) (sym prior-is))
 
   entries-is : map (read_entry ts') (entries s')
       ≡ set (map (read_entry ts) (entries s)) i
-      (record { key = t.start; last_known_closed_len = read_known known'; solution = solution_turn (read_solution t.nodes e.solution) (read_solution ns' u.find) })
+      (record { key = t.start; last_known_closed_len = known'; solution = solution_turn (read_solution t.nodes e.solution) (read_solution ns' u.find) })
   entries-is =
       ap (map (read_entry ts')) (take-set-lt s.tree_count s.trees i (entry_after d e u) h)
       ∙ map-set (read_entry ts') (entries s) i (entry_after d e u)
@@ -212,42 +208,42 @@ module _ (d : Domain) (acc : Accepted d.graph) (ts : List Tree) (s : Search) (i 
   best-kept : read_best d ts' s' s.best_solution ≡ read_best d ts s s.best_solution
   best-kept = go s.best_solution ∙ best-later d ts ts' ok all-later s r
     where
-      go : (o : BestSolution) → read_best d ts' s' o ≡ read_best d ts' s o
-      go NoBest = refl
-      go (Best j n) = ap (λ (x : ℕ). some (record { entry = j; cost = solution_cost d (tree ts' x).nodes n })) (slot-now j)
+      go : (o : Option BestSolution) → read_best d ts' s' o ≡ read_best d ts' s o
+      go None = refl
+      go (Some b) = ap (λ (x : ℕ). Some (record { entry = b.entry; cost = solution_cost d (tree ts' x).nodes b.node })) (slot-now b.entry)
 
-  best-new : (n : ℕ) → read_best d ts' s' (Best i n) ≡ some (record { entry = i; cost = solution_cost d ns' n })
+  best-new : (n : ℕ) → read_best d ts' s' (as_best i n) ≡ Some (record { entry = i; cost = solution_cost d ns' n })
   best-new n =
-      ap (λ (x : ℕ). some (record { entry = i; cost = solution_cost d (tree ts' x).nodes n })) (slot-now i)
-      ∙ ap (λ (x : Tree). some (record { entry = i; cost = solution_cost d x.nodes n })) now
+      ap (λ (x : ℕ). Some (record { entry = i; cost = solution_cost d (tree ts' x).nodes n })) (slot-now i)
+      ∙ ap (λ (x : Tree). Some (record { entry = i; cost = solution_cost d x.nodes n })) now
 
   best-is : best_turn (read_solution t.nodes e.solution) (read_solution ns' u.find) (read_best d ts s s.best_solution) i ≡ read_best d ts' s' s'.best_solution
   best-is =
       ap (λ (p : Option Path). best_turn p (read_solution ns' u.find) (read_best d ts s s.best_solution) i) prior-is ∙ go s.best_solution refl u.find
     where
-      at : (o : BestSolution) → s.best_solution ≡ o → (n : ℕ)
+      at : (o : Option BestSolution) → s.best_solution ≡ o → (n : ℕ)
           → best_after (read_best d ts s o) i (solution_cost d ns' n) ≡ read_best d ts' s' (best_if (cheaper (solution_cost d ns' n) (bound_of d ts s o)) o i n)
-      at NoBest z n = sym (best-new n)
-      at (Best j m) z n = pick (ltb (solution_cost d ns' n) (solution_cost d (tree ts (entry s j).tree).nodes m))
+      at None z n = sym (best-new n)
+      at (Some b) z n = pick (ltb (solution_cost d ns' n) (solution_cost d (tree ts (entry s b.entry).tree).nodes b.node))
         where
-          pick : (q : Bool) → best_when q i (solution_cost d ns' n) (record { entry = j; cost = solution_cost d (tree ts (entry s j).tree).nodes m }) ≡ read_best d ts' s' (best_if q (Best j m) i n)
+          pick : (q : Bool) → best_when q i (solution_cost d ns' n) (record { entry = b.entry; cost = solution_cost d (tree ts (entry s b.entry).tree).nodes b.node }) ≡ read_best d ts' s' (best_if q (as_best b.entry b.node) i n)
           pick true = sym (best-new n)
-          pick false = sym (subst (λ (o : BestSolution). read_best d ts' s' o ≡ read_best d ts s o) z best-kept)
+          pick false = sym (subst (λ (o : Option BestSolution). read_best d ts' s' o ≡ read_best d ts s o) z best-kept)
 
-      go : (o : BestSolution) → s.best_solution ≡ o → (f : Solution)
+      go : (o : Option BestSolution) → s.best_solution ≡ o → (f : Option ℕ)
           → best_turn (read_solution ns' e.solution) (read_solution ns' f) (read_best d ts s o) i ≡ read_best d ts' s' (recorded.best_after d ns' (bound_of d ts s o) e.solution o i f)
-      go o z Unsolved = sym (subst (λ (o : BestSolution). read_best d ts' s' o ≡ read_best d ts s o) z best-kept)
-      go o z (At n) = ap (λ (q : Bool). best_unless q (read_best d ts s o) i (retrace_node ns' n)) (dearer-is d ns' n e.solution) ∙ unless (dearer d ns' n e.solution)
+      go o z None = sym (subst (λ (o : Option BestSolution). read_best d ts' s' o ≡ read_best d ts s o) z best-kept)
+      go o z (Some n) = ap (λ (q : Bool). best_unless q (read_best d ts s o) i (retrace_node ns' n)) (dearer-is d ns' n e.solution) ∙ unless (dearer d ns' n e.solution)
         where
           unless : (q : Bool) → best_unless q (read_best d ts s o) i (retrace_node ns' n) ≡ read_best d ts' s' (best_by q (cheaper (solution_cost d ns' n) (bound_of d ts s o)) o i n)
-          unless true = sym (subst (λ (o : BestSolution). read_best d ts' s' o ≡ read_best d ts s o) z best-kept)
+          unless true = sym (subst (λ (o : Option BestSolution). read_best d ts' s' o ≡ read_best d ts s o) z best-kept)
           unless false = ap (best_after (read_best d ts s o) i) (retraced d ns' n) ∙ at o z n
 
   ends_is : turn_ends d (read_memory d ts s) (read_entry ts e) t ≡ read_turn e.last_known_closed_len u s.exhausted
   unfolding read_memory read_entry
   ends_is =
-      ap (λ (o : Option ℕ). turn_end d (goals s) o t (read_known e.last_known_closed_len) s.exhausted
-      (look_unless (same_len (read_known e.last_known_closed_len) (closed_count t.closed)) t (goals s)))
+      ap (λ (o : Option ℕ). turn_end d (goals s) o t e.last_known_closed_len s.exhausted
+      (look_unless (same_len e.last_known_closed_len (closed_count t.closed)) t (goals s)))
       (bound-is d ts s s.best_solution)
       ∙ turn_is d (goals s) b acc t e.last_known_closed_len s.exhausted sound-t
 

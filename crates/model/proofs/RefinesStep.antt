@@ -1,17 +1,15 @@
 -- The reference's step, path and calls are the definitions', on sound trees: the same trees, the same memory, the same answers.
 -- Assumes nothing.
 use mathlib.Core.Path.{◌≡◌, refl, sym, ap, ap₂, ◌∙◌, subst}
+use Rattle.std.specs.declared.option.Option.{Option}
+use Rattle.std.specs.Prelude.{None, Some}
 use mathlib.Core.Bool.{Bool, true, false, not, ◌&&◌}
 use mathlib.Core.List.{List}
-use mathlib.Core.Option.{Option, none, some}
 use Prim.Native.Nat.{ℕ, ◌+◌, ◌*◌, ◌<◌}
 use native.Mathlib.Omega.{arith}
 use lib.Dec.{ltb}
 use lib.ListN.{length}
-use Rattle.model.specs.declared.Solution.{Solution}
-use Rattle.model.specs.declared.Solution.TheVariants.{At}
 use Rattle.model.specs.declared.BestSolution.{BestSolution}
-use Rattle.model.specs.declared.BestSolution.TheVariants.{NoBest, Best}
 use Rattle.model.specs.declared.TreeMemory.{TreeMemory}
 use Rattle.model.specs.declared.Search.{Search}
 use Rattle.model.specs.Answers.{answered, refused, solved}
@@ -19,7 +17,7 @@ use Rattle.model.specs.Graph.{Domain, Direction, Accepted}
 use Rattle.model.specs.Tree.{Tree}
 use Rattle.model.specs.Path.{moves_of, words}
 use Rattle.model.specs.Sound.{tree, Sound, SoundTrees}
-use Rattle.model.specs.Search.{entry, goals, with_exhausted, Walk, rounds, walk}
+use Rattle.model.specs.Search.{entry, goals, with_exhausted, Walk, rounds, walk, as_best}
 use Rattle.model.specs.Valid.{valid}
 use Rattle.model.specs.Calls.{Cache, with_trees, or_else, first_fault, initialize_faults, initialize_by, shown_by, shown, shown_tree_by, shown_tree, status_at, final_status, step_if, step_by, step, AfterStep, is_best, solved_already, retrace}
 use Rattle.model.specs.Demands.{initializing, stepping, after}
@@ -58,9 +56,9 @@ unfolding read_memory
 read-exhausted d ts s =
     ap (λ (o : Option BestCost). record { trees = (read_memory d ts s).trees; goal_keys = goals s; best_solution = o; exhausted = true }) (go s.best_solution)
   where
-    go : (o : BestSolution) → read_best d ts s o ≡ read_best d ts (with_exhausted s true) o
-    go NoBest = refl
-    go (Best i n) = refl
+    go : (o : Option BestSolution) → read_best d ts s o ≡ read_best d ts (with_exhausted s true) o
+    go None = refl
+    go (Some b) = refl
 
 abbrev unfinished : Stepping → Answered
 unfinished r = record { trees = r.trees; memory = r.memory; status = Incomplete }
@@ -97,20 +95,20 @@ module _ (d : Domain) (acc : Accepted d.graph) (ts : List Tree) (s : Search) (ok
 
   -- no best, or the path of the node that the best's entry holds
   data Ending : Type 0 where
-    unsolved : s.best_solution ≡ NoBest → ending ≡ Impossible → Ending
-    holding : (i n h : ℕ) → s.best_solution ≡ Best i n → (entry s i).solution ≡ At h → Sound d (tree ts (entry s i).tree)
+    unsolved : s.best_solution ≡ None → ending ≡ Impossible → Ending
+    holding : (i n h : ℕ) → s.best_solution ≡ as_best i n → (entry s i).solution ≡ Some h → Sound d (tree ts (entry s i).tree)
         → h < length (tree ts (entry s i).tree).nodes
         → ending ≡ Solved (in_chart d.direction (retrace_node (tree ts (entry s i).tree).nodes h)) → Ending
 
-  end-at : (o : BestSolution) → s.best_solution ≡ o → ending ≡ finished d.direction (read_memory d ts s) (read_best d ts s o)
+  end-at : (o : Option BestSolution) → s.best_solution ≡ o → ending ≡ finished d.direction (read_memory d ts s) (read_best d ts s o)
   end-at o e = ap (finished d.direction (read_memory d ts s)) (read-best d ts s ∙ ap (read_best d ts s) e)
 
-  end-held : (i n : ℕ) → s.best_solution ≡ Best i n → (h : ℕ) → (entry s i).solution ≡ At h → Ending
+  end-held : (i n : ℕ) → s.best_solution ≡ as_best i n → (h : ℕ) → (entry s i).solution ≡ Some h → Ending
   end-held i n e h z =
       let r : Readable d ts s = valid-readable d ts s ok fine in
       let k : i < s.tree_count = (r.best i n e).0 in
       holding i n h e z (ok.each (entry s i).tree (r.slots i k)) (r.held i h k z) (
-      end-at (Best i n) e
+      end-at (as_best i n) e
       ∙ ap (λ (x : TreeEntry). solved_by d.direction x.solution) (read-place d ts s r i k)
       ∙ ap (solved_by d.direction) (read_held ts (entry s i) ∙ ap (read_solution (tree ts (entry s i).tree).nodes) z)
       )
@@ -118,18 +116,18 @@ module _ (d : Domain) (acc : Accepted d.graph) (ts : List Tree) (s : Search) (ok
   end_of : Ending
   end_of = go s.best_solution refl
     where
-      go : (o : BestSolution) → s.best_solution ≡ o → Ending
-      go NoBest e = unsolved e (end-at NoBest e)
-      go (Best i n) e = let q = (valid-at d ts s fine).held over i n e in end-held i n e q.0 q.1
+      go : (o : Option BestSolution) → s.best_solution ≡ o → Ending
+      go None e = unsolved e (end-at None e)
+      go (Some b) e = let q = (valid-at d ts s fine).held over b.entry b.node e in end-held b.entry b.node e q.0 q.1
 
   ends-well : Ending → reply_of ending ≡ answered (final_status ts s)
   unfolding final_status
-  ends-well (unsolved e z) = ap reply_of z ∙ sym (ap (λ (o : BestSolution). answered (status_at (shown_tree_by ts s o) (shown_by s o))) e)
+  ends-well (unsolved e z) = ap reply_of z ∙ sym (ap (λ (o : Option BestSolution). answered (status_at (shown_tree_by ts s o) (shown_by s o))) e)
   ends-well (holding i n h e q k l z) =
       let t : Tree = tree ts (entry s i).tree in
       ap reply_of z
       ∙ ap₂ (λ (a b : ℕ). answered (solved a b)) (retrace-total d acc t k h l d.direction) (retrace-moves d acc t k h l d.direction)
-      ∙ sym (ap (λ (o : BestSolution). answered (status_at (shown_tree_by ts s o) (shown_by s o))) e ∙ ap (λ (o : Solution). answered (status_at t o)) q)
+      ∙ sym (ap (λ (o : Option BestSolution). answered (status_at (shown_tree_by ts s o) (shown_by s o))) e ∙ ap (λ (o : Option ℕ). answered (status_at t o)) q)
 
   step-ends : reference.step d ts (read_memory d ts s) ≡ record { trees = ts; memory = read_memory d ts s; status = ending }
   step-ends = step-when d ts (read_memory d ts s) ∙ ap (λ (x : Bool). step_when x d ts (read_memory d ts s)) (read-flag d ts s ∙ over)
@@ -152,7 +150,7 @@ pub record StepIs (d : Domain) (r : Answered) (z : AfterStep) : Type 0 where
   pub reply : reply_of r.status ≡ z.reply
 
 path-shown : (dir : Direction) (t : Tree) (h : ℕ) (x : Path) (p : List ℕ) → length x.sequence ≡ moves_of t.nodes h → path_words x ≡ words dir t.nodes h
-    → shown_of (Solved x) p ≡ retrace_as true true dir t (At h) p
+    → shown_of (Solved x) p ≡ retrace_as true true dir t (Some h) p
 path-shown dir t h x p e f = go (ltb (length p) (1 + 2 * length x.sequence)) ∙ retrace-shown dir t h p (length x.sequence) (path_words x) e f
   where
     go : (q : Bool) → shown_if q x p ≡ shown_with q (length x.sequence) (path_words x) p
@@ -181,15 +179,15 @@ module _ (c : Cache) (acc : Accepted c.domain.graph) (ok : SoundTrees c.domain c
     unsolved-is p e = sym (ap (λ (x : Bool). retrace_as true x c.domain.direction (shown_tree c.trees s) (shown s) p) e)
 
     ending-is : (over : s.exhausted ≡ true) (p : List ℕ) → Ending c.domain acc c.trees s ok fine over → Shown (ending c.domain acc c.trees s ok fine over) p
-    ending-is over p (unsolved e z) = ap (λ (x : SearchStatus). shown_of x p) z ∙ unsolved-is p (ap₂ (λ (x : Bool) (o : BestSolution). x && is_best o) over e)
+    ending-is over p (unsolved e z) = ap (λ (x : SearchStatus). shown_of x p) z ∙ unsolved-is p (ap₂ (λ (x : Bool) (o : Option BestSolution). x && is_best o) over e)
     ending-is over p (holding i n h e q k l z) =
         let dir : Direction = c.domain.direction in
         let t : Tree = tree c.trees (entry s i).tree in
         ap (λ (x : SearchStatus). shown_of x p) z
         ∙ path-shown dir t h (in_chart dir (retrace_node t.nodes h)) p (retrace-moves c.domain acc t k h l dir) (retrace-words c.domain acc t k h l dir)
         ∙ sym (
-        ap₂ (λ (x : Bool) (o : BestSolution). retrace_as true (x && is_best o) dir (shown_tree_by c.trees s o) (shown_by s o) p) over e
-        ∙ ap (λ (o : Solution). retrace_as true true dir t o p) q
+        ap₂ (λ (x : Bool) (o : Option BestSolution). retrace_as true (x && is_best o) dir (shown_tree_by c.trees s o) (shown_by s o) p) over e
+        ∙ ap (λ (o : Option ℕ). retrace_as true true dir t o p) q
         )
 
     pub retrace-is : (p : List ℕ) → shown_of (path_status s.exhausted c.domain.direction (read_memory c.domain c.trees s)) p ≡ retrace c s p
@@ -209,8 +207,8 @@ module _ (c : Cache) (acc : Accepted c.domain.graph) (ok : SoundTrees c.domain c
   initialize-leaves ss gs = go (first_fault (initialize_faults c ss gs))
     where
       go : (o : Option ℕ) → with_trees c (trees_when o (reference.initialize c.domain c.trees ss gs).trees c.trees) ≡ (initialize_by o c ss gs).cache
-      go (some n) = refl
-      go none = ap (λ (r : reference.Opened). with_trees c r.trees) (initialize-is c.domain c.trees ok ss gs)
+      go (Some n) = refl
+      go None = ap (λ (r : reference.Opened). with_trees c r.trees) (initialize-is c.domain c.trees ok ss gs)
 
   pub step-leaves : (s : Search) → reference.after c (stepping s) ≡ after c (stepping s)
   unfolding reference.after after
@@ -223,6 +221,6 @@ module _ (c : Cache) (acc : Accepted c.domain.graph) (ok : SoundTrees c.domain c
       same true = refl
       same false = refl
 
-      go : (v : Bool) → valid c.domain c.trees s ≡ v → with_trees c (trees_when (or_else (not v) 8 none) left c.trees) ≡ (step_by (or_else (not v) 8 none) c s).cache
+      go : (v : Bool) → valid c.domain c.trees s ≡ v → with_trees c (trees_when (or_else (not v) 8 None) left c.trees) ≡ (step_by (or_else (not v) 8 None) c s).cache
       go false e = refl
       go true e = ap (with_trees c) (if-is s e s.exhausted refl).trees ∙ same s.exhausted

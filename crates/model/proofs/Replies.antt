@@ -1,7 +1,11 @@
 -- A reply tells the answer that it was read off, number, line and values: a promise by equation of replies determines the answer. The numbers
 -- are those of 01's table.
 -- Assumes nothing.
-use mathlib.Core.Path.{◌≡◌, refl, sym, ap, ◌∙◌}
+use mathlib.Core.Path.{◌≡◌, refl, sym, ap, ap₂, ◌∙◌}
+use Rattle.model.specs.declared.Search.{Search}
+use Rattle.std.specs.declared.result.Result.{Result}
+use Rattle.model.specs.declared.Refused.{Refused}
+use Rattle.std.specs.Prelude.{Err, Ok}
 use mathlib.Core.List.{List, [], ◌∷◌, map}
 use Prim.Native.Nat.{ℕ, ◌-◌}
 use native.Mathlib.Omega.{arith}
@@ -10,15 +14,8 @@ use Rattle.model.specs.declared.Refusal.{Refusal}
 use Rattle.model.specs.declared.Refusal.TheVariants.{Malformed, OutOfOrder, NoSuchVertex, OverLimit, ShortCache, TreesFull, Unsound, InvalidSearch, NotSolved, ShortPath}
 use Rattle.model.specs.declared.SearchStatus.{SearchStatus}
 use Rattle.model.specs.declared.SearchStatus.TheVariants.{Incomplete, Solved, Impossible}
-use Rattle.model.specs.declared.OpenAnswer.{OpenAnswer}
-use Rattle.model.specs.declared.OpenAnswer.TheVariants as opening
-use Rattle.model.specs.declared.InitializeAnswer.{InitializeAnswer}
-use Rattle.model.specs.declared.InitializeAnswer.TheVariants as initializing
-use Rattle.model.specs.declared.StepAnswer.{StepAnswer}
-use Rattle.model.specs.declared.StepAnswer.TheVariants as stepping
-use Rattle.model.specs.declared.RetraceAnswer.{RetraceAnswer}
-use Rattle.model.specs.declared.RetraceAnswer.TheVariants as retracing
 use Rattle.model.specs.Answers.{number, Reply, answered, refused, Status, waiting, solved, no_path, status, open_reply, initialize_reply, step_reply, retrace_reply}
+use Rattle.model.specs.Calls.{opened_search}
 
 -- misprint, out of turn, no such motif, over measure, short cloth, shelf full, torn book, strange search, not woven, short ribbon
 abbrev pub refusals : List Refusal
@@ -55,49 +52,49 @@ status-is Impossible = refl
 
 -- ---- the answer that a reply was read off
 
-abbrev open_from : Reply (Unit {0}) → OpenAnswer
-open_from (answered u) = opening.Opened
-open_from (refused n line) = opening.Refused (refusal_of n) line
+abbrev open_from : Reply (Unit {0}) → Result (Unit {0}) Refused
+open_from (answered u) = Ok u
+open_from (refused n line) = Err (record { refusal = refusal_of n; line = line })
 
-abbrev initialize_from : Reply (Unit {0}) → InitializeAnswer
-initialize_from (answered u) = initializing.Initialized
-initialize_from (refused n line) = initializing.Refused (refusal_of n) line
+abbrev initialize_from : Reply (Unit {0}) → Search → Result Search Refusal
+initialize_from (answered u) s = Ok s
+initialize_from (refused n line) s = Err (refusal_of n)
 
-abbrev step_from : Reply Status → StepAnswer
-step_from (answered s) = stepping.Status (status_from s)
-step_from (refused n line) = stepping.Refused (refusal_of n) line
+abbrev step_from : Reply Status → Result SearchStatus Refusal
+step_from (answered s) = Ok (status_from s)
+step_from (refused n line) = Err (refusal_of n)
 
-abbrev retrace_from : Reply ℕ → RetraceAnswer
-retrace_from (answered m) = retracing.Moves m
-retrace_from (refused n line) = retracing.Refused (refusal_of n) line
+abbrev retrace_from : Reply ℕ → Result ℕ Refusal
+retrace_from (answered m) = Ok m
+retrace_from (refused n line) = Err (refusal_of n)
 
-open-from : (a : OpenAnswer) → open_from (open_reply a) ≡ a
-open-from opening.Opened = refl
-open-from (opening.Refused r line) = ap (λ (x : Refusal). opening.Refused x line) (refusal_is r)
+open-from : (a : Result (Unit {0}) Refused) → open_from (open_reply a) ≡ a
+open-from (Ok u) = refl
+open-from (Err f) = ap (λ (x : Refusal). Err (record { refusal = x; line = f.line })) (refusal_is f.refusal)
 
-initialize-from : (a : InitializeAnswer) → initialize_from (initialize_reply a) ≡ a
-initialize-from initializing.Initialized = refl
-initialize-from (initializing.Refused r line) = ap (λ (x : Refusal). initializing.Refused x line) (refusal_is r)
+initialize-from : (a : Result Search Refusal) → initialize_from (initialize_reply a) (opened_search a) ≡ a
+initialize-from (Ok s) = refl
+initialize-from (Err r) = ap Err (refusal_is r)
 
-step_from_lem : (a : StepAnswer) → step_from (step_reply a) ≡ a
-step_from_lem (stepping.Status s) = ap stepping.Status (status-is s)
-step_from_lem (stepping.Refused r line) = ap (λ (x : Refusal). stepping.Refused x line) (refusal_is r)
+step_from_lem : (a : Result SearchStatus Refusal) → step_from (step_reply a) ≡ a
+step_from_lem (Ok s) = ap Ok (status-is s)
+step_from_lem (Err r) = ap Err (refusal_is r)
 
-retrace-from : (a : RetraceAnswer) → retrace_from (retrace_reply a) ≡ a
-retrace-from (retracing.Moves m) = refl
-retrace-from (retracing.Refused r line) = ap (λ (x : Refusal). retracing.Refused x line) (refusal_is r)
+retrace-from : (a : Result ℕ Refusal) → retrace_from (retrace_reply a) ≡ a
+retrace-from (Ok m) = refl
+retrace-from (Err r) = ap Err (refusal_is r)
 
 -- equal replies, equal answers
-pub open_told : (a b : OpenAnswer) → open_reply a ≡ open_reply b → a ≡ b
+pub open_told : (a b : Result (Unit {0}) Refused) → open_reply a ≡ open_reply b → a ≡ b
 open_told a b e = sym (open-from a) ∙ ap open_from e ∙ open-from b
 
-pub initialize-told : (a b : InitializeAnswer) → initialize_reply a ≡ initialize_reply b → a ≡ b
-initialize-told a b e = sym (initialize-from a) ∙ ap initialize_from e ∙ initialize-from b
+pub initialize-told : (a b : Result Search Refusal) → initialize_reply a ≡ initialize_reply b → opened_search a ≡ opened_search b → a ≡ b
+initialize-told a b e k = sym (initialize-from a) ∙ ap₂ initialize_from e k ∙ initialize-from b
 
-pub step-told : (a b : StepAnswer) → step_reply a ≡ step_reply b → a ≡ b
+pub step-told : (a b : Result SearchStatus Refusal) → step_reply a ≡ step_reply b → a ≡ b
 step-told a b e = sym (step_from_lem a) ∙ ap step_from e ∙ step_from_lem b
 
-pub retrace-told : (a b : RetraceAnswer) → retrace_reply a ≡ retrace_reply b → a ≡ b
+pub retrace-told : (a b : Result ℕ Refusal) → retrace_reply a ≡ retrace_reply b → a ≡ b
 retrace-told a b e = sym (retrace-from a) ∙ ap retrace_from e ∙ retrace-from b
 
 -- no reply is both

@@ -1,6 +1,8 @@
 -- A step of a search on its own record: what the search knows stays true, and what a finished step means.
 -- Assumes nothing.
 use mathlib.Core.Path.{◌≡◌, refl, sym, ap, ◌∙◌, subst}
+use Rattle.std.specs.declared.option.Option.{Option}
+use Rattle.std.specs.Prelude.{None, Some}
 use mathlib.Core.Logic.{◌⊎◌, inl, inr}
 use mathlib.Core.Bool.{Bool, true, false, true≢false}
 use mathlib.Core.List.{List}
@@ -8,12 +10,7 @@ use Prim.Native.Nat.{ℕ, zero, suc, ◌+◌, ◌<◌, ◌≤◌}
 use native.Mathlib.Omega.{arith}
 use native.Mathlib.Decide.{ℕ_discrete}
 use lib.ListN.{length, set, length-set}
-use Rattle.model.specs.declared.CostBound.{CostBound}
-use Rattle.model.specs.declared.CostBound.TheVariants.{Bound}
-use Rattle.model.specs.declared.Solution.{Solution}
-use Rattle.model.specs.declared.Solution.TheVariants.{Unsolved, At}
 use Rattle.model.specs.declared.BestSolution.{BestSolution}
-use Rattle.model.specs.declared.BestSolution.TheVariants.{NoBest, Best}
 use Rattle.model.specs.declared.TreeMemory.{TreeMemory}
 use Rattle.model.specs.declared.Search.{Search}
 use Rattle.model.specs.Lists.{mem, all_below}
@@ -33,23 +30,23 @@ use Rattle.model.proofs.Holding as holding
 -- ---- what a search's own record keeps
 
 -- e is good for the trees ts, the goals gs and the bound b; O holds of the slots of the search's own trees
-pub record EntryOk (O : ℕ → Type 0) (d : Domain) (gs : List ℕ) (ts : List Tree) (b : CostBound) (e : TreeMemory) : Type 0 where
+pub record EntryOk (O : ℕ → Type 0) (d : Domain) (gs : List ℕ) (ts : List Tree) (b : Option ℕ) (e : TreeMemory) : Type 0 where
   pub own : O e.tree
   pub inside : e.tree < length ts
   pub known : Known d gs (tree ts e.tree) e.last_known_closed_len e.solution
-  pub low : (n : ℕ) → e.solution ≡ At n → Under b (solution_cost d (tree ts e.tree).nodes n)
+  pub low : (n : ℕ) → e.solution ≡ Some n → Under b (solution_cost d (tree ts e.tree).nodes n)
 
 -- the best, at node n of entry i: the entry holds a solution of that cost
 pub record BestOk (d : Domain) (gs : List ℕ) (ts : List Tree) (s : Search) (i n : ℕ) : Type 0 where
   pub counted : i < s.tree_count
   pub holds : Holds gs (tree ts (entry s i).tree) n
   pub h : ℕ
-  pub held : (entry s i).solution ≡ At h
+  pub held : (entry s i).solution ≡ Some h
   pub level : solution_cost d (tree ts (entry s i).tree).nodes h ≡ solution_cost d (tree ts (entry s i).tree).nodes n
 
-abbrev pub BestsOk : Domain → List ℕ → List Tree → Search → BestSolution → Type 0
-BestsOk d gs ts s NoBest = Unit {0}
-BestsOk d gs ts s (Best i n) = BestOk d gs ts s i n
+abbrev pub BestsOk : Domain → List ℕ → List Tree → Search → Option BestSolution → Type 0
+BestsOk d gs ts s None = Unit {0}
+BestsOk d gs ts s (Some b) = BestOk d gs ts s b.entry b.node
 
 pub record Ready (O : ℕ → Type 0) (d : Domain) (ts : List Tree) (s : Search) : Type 0 where
   pub arrays : length s.trees ≡ 64
@@ -63,7 +60,7 @@ pub record Ready (O : ℕ → Type 0) (d : Domain) (ts : List Tree) (s : Search)
 -- ---- in later trees
 
 module _ (O : ℕ → Type 0) (d : Domain) (gs : List ℕ) (ts ts' : List Tree) (ok : SoundTrees d ts) (l : AllLater ts ts') where
-  pub entry-later : (b b' : CostBound) → ((k : ℕ) → Under b k → Under b' k) → (e : TreeMemory) → EntryOk O d gs ts b e → EntryOk O d gs ts' b' e
+  pub entry-later : (b b' : Option ℕ) → ((k : ℕ) → Under b k → Under b' k) → (e : TreeMemory) → EntryOk O d gs ts b e → EntryOk O d gs ts' b' e
   entry-later b b' f e k =
       record {
         own = k.own;
@@ -72,7 +69,7 @@ module _ (O : ℕ → Type 0) (d : Domain) (gs : List ℕ) (ts ts' : List Tree) 
         low = λ n z. rw (same-node d gs ts ts' ok l e.tree n k.inside (k.known.holds n z)) (f _ (k.low n z));
       }
 
-  pub best-later : (s : Search) → ((j : ℕ) → j < s.tree_count → (entry s j).tree < length ts) → (i n : ℕ) → BestOk d gs ts s i n → ((m : ℕ) → (entry s i).solution ≡ At m → Holds gs (tree ts (entry s i).tree) m) → BestOk d gs ts' s i n
+  pub best-later : (s : Search) → ((j : ℕ) → j < s.tree_count → (entry s j).tree < length ts) → (i n : ℕ) → BestOk d gs ts s i n → ((m : ℕ) → (entry s i).solution ≡ Some m → Holds gs (tree ts (entry s i).tree) m) → BestOk d gs ts' s i n
   best-later s inside i n k f =
       let h = inside i k.counted in
       record {
@@ -87,9 +84,9 @@ module _ (O : ℕ → Type 0) (d : Domain) (ts ts' : List Tree) (ok : SoundTrees
   pub bound-later : bound d ts' s ≡ bound d ts s
   bound-later = go s.best_solution r.best
     where
-      go : (x : BestSolution) → BestsOk d (goals s) ts s x → bound_of d ts' s x ≡ bound_of d ts s x
-      go NoBest k = refl
-      go (Best i n) k = ap (λ (x : Node). Bound (solution_cost_of d x)) (same-node d (goals s) ts ts' ok l _ n (r.entries i k.counted).inside k.holds)
+      go : (x : Option BestSolution) → BestsOk d (goals s) ts s x → bound_of d ts' s x ≡ bound_of d ts s x
+      go None k = refl
+      go (Some b) k = ap (λ (x : Node). Some (solution_cost_of d x)) (same-node d (goals s) ts ts' ok l _ b.node (r.entries b.entry k.counted).inside k.holds)
 
   pub ready-later : Ready O d ts' s
   ready-later =
@@ -103,14 +100,14 @@ module _ (O : ℕ → Type 0) (d : Domain) (ts ts' : List Tree) (ok : SoundTrees
         best = go s.best_solution r.best;
       }
     where
-      go : (x : BestSolution) → BestsOk d (goals s) ts s x → BestsOk d (goals s) ts' s x
-      go NoBest k = tt
-      go (Best i n) k = best-later O d (goals s) ts ts' ok l s (λ j h. (r.entries j h).inside) i n k (r.entries i k.counted).known.holds
+      go : (x : Option BestSolution) → BestsOk d (goals s) ts s x → BestsOk d (goals s) ts' s x
+      go None k = tt
+      go (Some b) k = best-later O d (goals s) ts ts' ok l s (λ j h. (r.entries j h).inside) b.entry b.node k (r.entries b.entry k.counted).known.holds
 
 -- ---- one round
 
 -- every path from the start of the tree in the slot i to a goal is worth at least b
-abbrev pub Covered : Domain → List ℕ → List Tree → CostBound → ℕ → Type 0
+abbrev pub Covered : Domain → List ℕ → List Tree → Option ℕ → ℕ → Type 0
 Covered d gs ts b i =
     (v : ℕ) (ls : List ℕ) → mem v gs ≡ true → Leads d.graph (tree ts i).start ls v → Under b (path_worth d (tree ts i).start ls v)
 
@@ -126,7 +123,7 @@ module _ (O : ℕ → Type 0) (d : Domain) (acc : Accepted d.graph) (ts : List T
   abbrev e : TreeMemory
   e = entry s i
 
-  abbrev b : CostBound
+  abbrev b : Option ℕ
   b = bound d ts s
 
   abbrev u : Turn
@@ -141,7 +138,7 @@ module _ (O : ℕ → Type 0) (d : Domain) (acc : Accepted d.graph) (ts : List T
   abbrev s₁ : Search
   s₁ = after d (bound d ts s) s i u
 
-  abbrev b₁ : CostBound
+  abbrev b₁ : Option ℕ
   b₁ = bound d ts₁ s₁
 
   ke : EntryOk O d gs ts b e
@@ -196,12 +193,12 @@ module _ (O : ℕ → Type 0) (d : Domain) (acc : Accepted d.graph) (ts : List T
   ]
     where
       -- the entry of the best as it was still holds a solution of its cost
-      old : holding.Stays d acc ts s ok holds-before i hi → (x : BestSolution) → s.best_solution ≡ x → BestsOk d gs ts s x → BestsOk d gs ts₁ s₁ x
-      old y NoBest z k = tt
-      old y (Best j n) z k =
-          let p = holds_after.best j n (y.best ∙ z) in
-          let l = holding.level-kept d acc ts s ok holds-before i hi j _ k.counted (ap (bound_of d ts s) z) y.bounds (record { h = k.h; held = k.held; level = k.level }) in
-          record { counted = p.0; holds = p.1; h = l.h; held = l.held; level = l.level ∙ sym (holding.cost-stays d acc ts s ok holds-before i hi j n k.counted k.holds) }
+      old : holding.Stays d acc ts s ok holds-before i hi → (x : Option BestSolution) → s.best_solution ≡ x → BestsOk d gs ts s x → BestsOk d gs ts₁ s₁ x
+      old y None z k = tt
+      old y (Some b) z k =
+          let p = holds_after.best b.entry b.node (y.best ∙ z) in
+          let l = holding.level-kept d acc ts s ok holds-before i hi b.entry _ k.counted (ap (bound_of d ts s) z) y.bounds (record { h = k.h; held = k.held; level = k.level }) in
+          record { counted = p.0; holds = p.1; h = l.h; held = l.held; level = l.level ∙ sym (holding.cost-stays d acc ts s ok holds-before i hi b.entry b.node k.counted k.holds) }
 
       new : (x : holding.Improves d acc ts s ok holds-before i hi) → BestOk d gs ts₁ s₁ i x.n
       new x =
@@ -221,9 +218,9 @@ module _ (O : ℕ → Type 0) (d : Domain) (acc : Accepted d.graph) (ts : List T
         best = best-ok;
       }
 
-  upto-low : (o : Solution) (k : ℕ) → ((n : ℕ) → o ≡ At n → Under b₁ (solution_cost d ns n)) → Upto d ns o k → Under b₁ k
-  upto-low Unsolved k f a = absurd a
-  upto-low (At n) k f a = under-le b₁ _ k a (f n refl)
+  upto-low : (o : Option ℕ) (k : ℕ) → ((n : ℕ) → o ≡ Some n → Under b₁ (solution_cost d ns n)) → Upto d ns o k → Under b₁ k
+  upto-low None k f a = absurd a
+  upto-low (Some n) k f a = under-le b₁ _ k a (f n refl)
 
   pub round-covers : u.more ≡ false → Covered d gs ts b₁ e.tree
   round-covers z v ls p l = elim (T.done z v ls p l) [ inl a ↦ upto-low _ _ (holding.low-now d acc ts s ok holds-before i hi) a | inr a ↦ round-lower _ a ]
@@ -278,7 +275,7 @@ module _ (O : ℕ → Type 0) (d : Domain) (acc : Accepted d.graph) (ts : List T
     start_is j h = (k.later.each _ (in-slot j h)).start
 
     -- what covers in the trees so far covers in the first trees
-    cover-first : (j : ℕ) (b : CostBound) → j < s.tree_count → Covered d (goals now) w.trees b (entry now j).tree → Covered d (goals s) ts b (entry s j).tree
+    cover-first : (j : ℕ) (b : Option ℕ) → j < s.tree_count → Covered d (goals now) w.trees b (entry now j).tree → Covered d (goals s) ts b (entry s j).tree
     cover-first j b h f v ls p l =
         let f' : Covered d (goals s) w.trees b (entry s j).tree = subst (λ (x : ℕ). Covered d (goals s) w.trees b x) (k.slots j) (subst (λ (x : List ℕ). Covered d x w.trees b (entry now j).tree) k.same f) in
         subst (λ (x : ℕ). Under b (path_worth d x ls v)) (start_is j h) (f' v ls p (subst (λ (x : ℕ). Leads d.graph x ls v) (sym (start_is j h)) l))
@@ -330,7 +327,7 @@ module _ (O : ℕ → Type 0) (d : Domain) (acc : Accepted d.graph) (ts : List T
       (record {
         sound = ok;
         later = all-refl ts;
-        ready = record { arrays = r.arrays; counts = r.counts; keys = r.keys; key_counts = r.key_counts; below = r.below; entries = λ j h. subst (λ (b : CostBound). EntryOk O d (goals s) ts b (entry s j)) (sym (mark s.best_solution)) (r.entries j h); best = first s.best_solution r.best };
+        ready = record { arrays = r.arrays; counts = r.counts; keys = r.keys; key_counts = r.key_counts; below = r.below; entries = λ j h. subst (λ (b : Option ℕ). EntryOk O d (goals s) ts b (entry s j)) (sym (mark s.best_solution)) (r.entries j h); best = first s.best_solution r.best };
         count = refl;
         same = refl;
         slots = λ j. refl;
@@ -338,10 +335,10 @@ module _ (O : ℕ → Type 0) (d : Domain) (acc : Accepted d.graph) (ts : List T
         moves = λ x. absurd (true≢false x);
       })
     where
-      mark : (x : BestSolution) → bound_of d ts (with_exhausted s true) x ≡ bound_of d ts s x
-      mark NoBest = refl
-      mark (Best i n) = refl
+      mark : (x : Option BestSolution) → bound_of d ts (with_exhausted s true) x ≡ bound_of d ts s x
+      mark None = refl
+      mark (Some b) = refl
 
-      first : (x : BestSolution) → BestsOk d (goals s) ts s x → BestsOk d (goals s) ts (with_exhausted s true) x
-      first NoBest k = tt
-      first (Best i n) k = record { counted = k.counted; holds = k.holds; h = k.h; held = k.held; level = k.level }
+      first : (x : Option BestSolution) → BestsOk d (goals s) ts s x → BestsOk d (goals s) ts (with_exhausted s true) x
+      first None k = tt
+      first (Some b) k = record { counted = k.counted; holds = k.holds; h = k.h; held = k.held; level = k.level }

@@ -1,9 +1,10 @@
 -- Many steps: the definition unfolded once, what a step that does not wait leaves, and what is told of it.
 -- Assumes nothing.
 use mathlib.Core.Path.{◌≡◌, refl, sym, ap, ◌∙◌, subst}
+use Rattle.std.specs.declared.option.Option.{Option}
+use Rattle.std.specs.Prelude.{None, Some}
 use mathlib.Core.Logic.{◌⊎◌, inl, inr}
 use mathlib.Core.Bool.{Bool, true, false, true≢false}
-use mathlib.Core.Option.{Option, none, some}
 use Prim.Native.Nat.{ℕ, zero, suc, ◌+◌, ◌<◌}
 use native.Mathlib.Omega.{arith}
 use Rattle.model.specs.declared.Search.{Search}
@@ -77,8 +78,8 @@ step-rests c s = go (first_fault (step_faults c s))
     by-mark false e = absurd (true≢false e)
 
     go : (o : Option ℕ) → is_waiting (step_by o c s).reply ≡ false → Rests c s (step_by o c s)
-    go (some n) e = record { cache = refl; search = refl; tickets = refl }
-    go none e = by-mark s.exhausted e
+    go (Some n) e = record { cache = refl; search = refl; tickets = refl }
+    go None e = by-mark s.exhausted e
 
 -- ---- no steps
 
@@ -93,10 +94,10 @@ solve-from (suc n) c s z = solve-some n c s
 pub solve-looks : (c : Cache) (s : Search) → is_waiting (step c s).reply ≡ false → solve 0 c s ≡ steps_from 1 c s 0 0
 solve-looks c s e =
     let k = step-rests c s e in
-    let none : 0 ≡ 0 + (step c s).tickets = omega (arith, k.tickets) in
+    let None : 0 ≡ 0 + (step c s).tickets = omega (arith, k.tickets) in
     let reply : Reply Status = (step c s).reply in
     let same : record { cache = c; search = s; reply = reply; waits = 0; tickets = 0 } ≡ last c s 0 0 =
-    λ i. record { cache = sym k.cache i; search = sym k.search i; reply = reply; waits = 0; tickets = none i } in
+    λ i. record { cache = sym k.cache i; search = sym k.search i; reply = reply; waits = 0; tickets = None i } in
     solve-none c s ∙ same ∙ sym (steps-end c s 0 0 0 e)
 
 -- ---- what is told of the step that ends so many, by its reply

@@ -2,6 +2,8 @@
 -- finished as solved holds no run".
 -- Assumes nothing.
 use mathlib.Core.Path.{◌≡◌, refl, sym, ap, ◌∙◌, subst}
+use Rattle.std.specs.declared.option.Option.{Option}
+use Rattle.std.specs.Prelude.{None, Some}
 use mathlib.Core.Logic.{inl, inr}
 use mathlib.Core.Bool.{Bool, true, false, not, ◌&&◌, ◌||◌, true≢false}
 use mathlib.Core.List.{List, [], ◌∷◌}
@@ -9,12 +11,7 @@ use Prim.Native.Nat.{ℕ, zero, suc, ◌+◌, ◌<◌, ◌≤◌}
 use native.Mathlib.Omega.{arith}
 use native.Mathlib.Decide.{ℕ_discrete}
 use lib.ListN.{length}
-use Rattle.model.specs.declared.CostBound.{CostBound}
-use Rattle.model.specs.declared.CostBound.TheVariants.{Bound}
-use Rattle.model.specs.declared.KnownLen.{KnownLen}
-use Rattle.model.specs.declared.KnownLen.TheVariants.{Never, Len}
 use Rattle.model.specs.declared.BestSolution.{BestSolution}
-use Rattle.model.specs.declared.BestSolution.TheVariants.{NoBest, Best}
 use Rattle.model.specs.declared.TreeMemory.{TreeMemory}
 use Rattle.model.specs.declared.Search.{Search}
 use Rattle.model.specs.Lists.{allb, all_below}
@@ -51,7 +48,7 @@ module _ (d : Domain) (ts : List Tree) (s : Search) where
   unfolding almost
   almost-marked m = go s.best_solution
     where
-      tests : Search → BestSolution → List Bool
+      tests : Search → Option BestSolution → List Bool
       tests x o =
           allb (list_tests s)
           ∷ all_below (vertex_count d.graph) (goals s)
@@ -60,9 +57,9 @@ module _ (d : Domain) (ts : List Tree) (s : Search) where
           ∷ same_cost (bound_of d ts x o) (least_held d ts (entries s))
           ∷ []
 
-      go : (o : BestSolution) → allb (tests (with_exhausted s m) o) ≡ allb (tests s o)
-      go NoBest = refl
-      go (Best i n) = refl
+      go : (o : Option BestSolution) → allb (tests (with_exhausted s m) o) ≡ allb (tests s o)
+      go None = refl
+      go (Some b) = refl
 
 -- what holds of a record that passes the others: it is not strange with the mark taken off
 abbrev Fine : Domain → List Tree → Search → Type 0
@@ -77,9 +74,9 @@ at-fine d ts s k = sym (almost-marked d ts s false) ∙ valid-almost d ts (with_
 -- ---- what is held
 
 module _ (d : Domain) (ts : List Tree) (s : Search) (k : Fine d ts s) where
-  low : (x : BestSolution) → s.best_solution ≡ x → (j n : ℕ) → HoldsRun (with_exhausted s false) j n → Under (bound_of d ts s x) (run_cost d ts s j n)
-  low NoBest z j n h = k.none_held z j n h
-  low (Best i m) z j n h = (k.least i m z).least j n h
+  low : (x : Option BestSolution) → s.best_solution ≡ x → (j n : ℕ) → HoldsRun (with_exhausted s false) j n → Under (bound_of d ts s x) (run_cost d ts s j n)
+  low None z j n h = k.none_held z j n h
+  low (Some b) z j n h = (k.least b.entry b.node z).least j n h
 
   holds : Holding d ts s
   holds =
@@ -94,18 +91,18 @@ module _ (d : Domain) (ts : List Tree) (s : Search) (k : Fine d ts s) where
         best = λ j n z. (k.best-entry j n z, goal-closes (goals s) (tree_of ts s j) n (k.best j n z));
       }
 
-  level : (x : BestSolution) → s.best_solution ≡ x → (c : ℕ) → bound_of d ts s x ≡ Bound c → (j : ℕ) × (j < s.tree_count) × HeldAt d ts s j c
-  level NoBest z c e = absurd (true≢false cc)
-  level (Best i m) z c e =
-      let l = k.least i m z in
-      let q : run_cost d ts s i m ≡ c = cc in
+  level : (x : Option BestSolution) → s.best_solution ≡ x → (c : ℕ) → bound_of d ts s x ≡ Some c → (j : ℕ) × (j < s.tree_count) × HeldAt d ts s j c
+  level None z c e = absurd (true≢false cc)
+  level (Some b) z c e =
+      let l = k.least b.entry b.node z in
+      let q : run_cost d ts s b.entry b.node ≡ c = cc in
       (l.holder, l.holds.counted, record { h = l.run; held = l.holds.held; level = l.costs ∙ q })
 
 -- ---- one round
 
-known-after : (a b : KnownLen) (m : ℕ) → ((n : ℕ) → a ≡ Len n → n ≤ m) → ((n : ℕ) → b ≡ Len n → n ≤ m) → (n : ℕ) → known_after a b ≡ Len n → n ≤ m
-known-after a Never m f g = f
-known-after a (Len k) m f g = g
+known-after : (a b : Option ℕ) (m : ℕ) → ((n : ℕ) → a ≡ Some n → n ≤ m) → ((n : ℕ) → b ≡ Some n → n ≤ m) → (n : ℕ) → known_after a b ≡ Some n → n ≤ m
+known-after a None m f g = f
+known-after a (Some k) m f g = g
 
 module _ (d : Domain) (acc : Accepted d.graph) (i : ℕ) (w : Walk) (ok : SoundTrees d w.trees) (k : Fine d w.trees w.search) (hi : i < w.search.tree_count) where
   abbrev s : Search
@@ -129,7 +126,7 @@ module _ (d : Domain) (acc : Accepted d.graph) (i : ℕ) (w : Walk) (ok : SoundT
   now : Holding d ts₁ s₁
   now = holding.after-round d acc w.trees s ok before i hi
 
-  level-now : (c : ℕ) → bound d ts₁ s₁ ≡ Bound c → (j : ℕ) × (j < s.tree_count) × HeldAt d ts₁ s₁ j c
+  level-now : (c : ℕ) → bound d ts₁ s₁ ≡ Some c → (j : ℕ) × (j < s.tree_count) × HeldAt d ts₁ s₁ j c
   level-now c z = elim (holding.best-cases d acc w.trees s ok before i hi) [
     | inl x ↦
         let y = sym x.bounds ∙ z in
@@ -138,10 +135,10 @@ module _ (d : Domain) (acc : Accepted d.graph) (i : ℕ) (w : Walk) (ok : SoundT
     | inr x ↦ (i, hi, subst (HeldAt d ts₁ s₁ i) (same (sym (ap (bound_of d ts₁ s₁) x.best) ∙ z)) (holding.level-new d acc w.trees s ok before i hi x))
   ]
     where
-      same : {a : ℕ} → Bound a ≡ Bound c → a ≡ c
+      same : {a : ℕ} → Some a ≡ Some c → a ≡ c
       same y = cc
 
-  least-now : (c : ℕ) → bound d ts₁ s₁ ≡ Bound c → LeastHeld d ts₁ (with_exhausted s₁ false) c
+  least-now : (c : ℕ) → bound d ts₁ s₁ ≡ Some c → LeastHeld d ts₁ (with_exhausted s₁ false) c
   least-now c z =
       let l = level-now c z in
       record {
@@ -149,10 +146,10 @@ module _ (d : Domain) (acc : Accepted d.graph) (i : ℕ) (w : Walk) (ok : SoundT
         run = l.2.h;
         holds = record { counted = l.1; held = l.2.held };
         costs = l.2.level;
-        least = λ j n h. subst (λ (b : CostBound). Under b (run_cost d ts₁ s₁ j n)) z ((now.entries j h.counted).low n h.held);
+        least = λ j n h. subst (λ (b : Option ℕ). Under b (run_cost d ts₁ s₁ j n)) z ((now.entries j h.counted).low n h.held);
       }
 
-  known-now : (j n : ℕ) → j < s.tree_count → (entry s₁ j).last_known_closed_len ≡ Len n → n ≤ vertex_count d.graph
+  known-now : (j n : ℕ) → j < s.tree_count → (entry s₁ j).last_known_closed_len ≡ Some n → n ≤ vertex_count d.graph
   known-now j n h z = elim (ℕ_discrete j i) [
     | yes y ↦ known-after e.last_known_closed_len u.known (vertex_count d.graph) (λ m q. k.remembers i m hi q)
         (λ m q. omega (arith, turn-counts d _ _ _ _ m q, count-le u.tree.closed, sized)) n
@@ -177,7 +174,7 @@ module _ (d : Domain) (acc : Accepted d.graph) (i : ℕ) (w : Walk) (ok : SoundT
         best-entry = λ j n z. (now.best j n z).0;
         best = λ j n z. closes-goal (goals s) (tree_of ts₁ s₁ j) n (now.best j n z).1;
         least = λ j n z. least-now (run_cost d ts₁ s₁ j n) (ap (bound_of d ts₁ s₁) z);
-        none_held = λ z j n h. subst (λ (b : CostBound). Under b (run_cost d ts₁ s₁ j n)) (ap (bound_of d ts₁ s₁) z) ((now.entries j h.counted).low n h.held);
+        none_held = λ z j n h. subst (λ (b : Option ℕ). Under b (run_cost d ts₁ s₁ j n)) (ap (bound_of d ts₁ s₁) z) ((now.entries j h.counted).low n h.held);
         finished = λ x. absurd (true≢false (sym x));
       }
 

@@ -1,6 +1,8 @@
 -- The tests of refusal 8 pass exactly if what 01 says of a record that is not strange holds.
 -- Assumes nothing.
 use mathlib.Core.Path.{◌≡◌, refl, sym, ap, ◌∙◌, subst}
+use Rattle.std.specs.declared.option.Option.{Option}
+use Rattle.std.specs.Prelude.{None, Some}
 use mathlib.Core.Logic.{◌⊎◌, inl, inr}
 use mathlib.Core.Bool.{Bool, true, false, not, ◌||◌, true≢false}
 use mathlib.Core.List.{List, [], ◌∷◌, Memᴰ}
@@ -9,20 +11,13 @@ use native.Mathlib.Omega.{arith}
 use borrow.Author.Tests.{leb-true, leb-false, lt-ltb, le-leb, eq-eqb, eqb-true}
 use lib.Dec.{leb, ltb}
 use lib.ListN.{length, get_or}
-use Rattle.model.specs.declared.CostBound.{CostBound}
-use Rattle.model.specs.declared.CostBound.TheVariants.{Unbounded, Bound}
-use Rattle.model.specs.declared.KnownLen.{KnownLen}
-use Rattle.model.specs.declared.KnownLen.TheVariants.{Never, Len}
-use Rattle.model.specs.declared.Solution.{Solution}
-use Rattle.model.specs.declared.Solution.TheVariants.{Unsolved, At}
 use Rattle.model.specs.declared.BestSolution.{BestSolution}
-use Rattle.model.specs.declared.BestSolution.TheVariants.{NoBest, Best}
 use Rattle.model.specs.declared.TreeMemory.{TreeMemory}
 use Rattle.model.specs.declared.Search.{Search}
 use Rattle.model.specs.Lists.{allb, all_below}
 use Rattle.model.specs.Graph.{Domain, vertex_count}
 use Rattle.model.specs.Tree.{Tree}
-use Rattle.model.specs.Search.{blank, entry, entries, goals, solution_cost, bound_of, bound}
+use Rattle.model.specs.Search.{blank, entry, entries, goals, solution_cost, bound_of, bound, as_best}
 use Rattle.model.specs.Valid.{list_tests, known_within, solution_closes, entry_tests, best_tests, best_closes, held_cost, pick_cost, lesser, least_held, same_cost, best_held, valid_tests, valid}
 use Rattle.model.specs.Strange.{ClosesGoal, tree_of, run_cost, HoldsRun, LeastHeld, NotStrange, StrangeExactly}
 use Rattle.model.proofs.Lists.{mem-listed, listed-mem}
@@ -42,27 +37,27 @@ at-below : (n : ℕ) (xs : List ℕ) → ((v : ℕ) → Memᴰ v xs → v < n) �
 at-below n [] f = refl
 at-below n (x ∷ xs) f = true-and (ltb x n) (all_below n xs) (lt-ltb x n (f x (Memᴰ.head refl))) (at-below n xs (λ v m. f v (Memᴰ.tail m)))
 
-known_at : (d : Domain) (x : KnownLen) → known_within d x ≡ true → (n : ℕ) → x ≡ Len n → n ≤ vertex_count d.graph
-known_at d x e n z = leb-true _ _ (subst (λ (y : KnownLen). known_within d y ≡ true) z e)
+known_at : (d : Domain) (x : Option ℕ) → known_within d x ≡ true → (n : ℕ) → x ≡ Some n → n ≤ vertex_count d.graph
+known_at d x e n z = leb-true _ _ (subst (λ (y : Option ℕ). known_within d y ≡ true) z e)
 
-at-known : (d : Domain) (x : KnownLen) → ((n : ℕ) → x ≡ Len n → n ≤ vertex_count d.graph) → known_within d x ≡ true
-at-known d Never f = refl
-at-known d (Len n) f = le-leb _ _ (f n refl)
+at-known : (d : Domain) (x : Option ℕ) → ((n : ℕ) → x ≡ Some n → n ≤ vertex_count d.graph) → known_within d x ≡ true
+at-known d None f = refl
+at-known d (Some n) f = le-leb _ _ (f n refl)
 
-at-solution : (gs : List ℕ) (t : Tree) (o : Solution) → ((n : ℕ) → o ≡ At n → ClosesGoal gs t n) → solution_closes gs t o ≡ true
-at-solution gs t Unsolved f = refl
-at-solution gs t (At n) f = at-holds gs t n (goal-closes gs t n (f n refl))
+at-solution : (gs : List ℕ) (t : Tree) (o : Option ℕ) → ((n : ℕ) → o ≡ Some n → ClosesGoal gs t n) → solution_closes gs t o ≡ true
+at-solution gs t None f = refl
+at-solution gs t (Some n) f = at-holds gs t n (goal-closes gs t n (f n refl))
 
-at-best : (ts : List Tree) (s : Search) (x : BestSolution) → ((i n : ℕ) → x ≡ Best i n → (i < s.tree_count) × ClosesGoal (goals s) (tree_of ts s i) n)
+at-best : (ts : List Tree) (s : Search) (x : Option BestSolution) → ((i n : ℕ) → x ≡ as_best i n → (i < s.tree_count) × ClosesGoal (goals s) (tree_of ts s i) n)
     → best_closes ts s x ≡ true
-at-best ts s NoBest f = refl
-at-best ts s (Best i n) f =
-    let r = f i n refl in
-    true-given (best_tests ts s i n) (lt-ltb _ _ r.0) (at-holds (goals s) (tree_of ts s i) n (goal-closes _ _ n r.1))
+at-best ts s None f = refl
+at-best ts s (Some b) f =
+    let r = f b.entry b.node refl in
+    true-given (best_tests ts s b.entry b.node) (lt-ltb _ _ r.0) (at-holds (goals s) (tree_of ts s b.entry) b.node (goal-closes _ _ b.node r.1))
 
-at_held : (s : Search) (x : BestSolution) → ((i n : ℕ) → x ≡ Best i n → (h : ℕ) × HoldsRun s i h) → best_held s x ≡ true
-at_held s NoBest f = refl
-at_held s (Best i n) f = rw (f i n refl).1.held
+at_held : (s : Search) (x : Option BestSolution) → ((i n : ℕ) → x ≡ as_best i n → (h : ℕ) × HoldsRun s i h) → best_held s x ≡ true
+at_held s None f = refl
+at_held s (Some b) f = rw (f b.entry b.node refl).1.held
 
 at-finished : (x b : Bool) → (x ≡ true → b ≡ true) → (not x || b) ≡ true
 at-finished true b f = f refl
@@ -70,27 +65,27 @@ at-finished false b f = refl
 
 -- ---- the least of the runs held
 
-same_at : (a b : CostBound) → same_cost a b ≡ true → b ≡ a
-same_at Unbounded Unbounded e = refl
-same_at Unbounded (Bound b) e = absurd (true≢false (sym e))
-same_at (Bound a) Unbounded e = absurd (true≢false (sym e))
-same_at (Bound a) (Bound b) e = ap Bound (sym (eqb-true a b e))
+same_at : (a b : Option ℕ) → same_cost a b ≡ true → b ≡ a
+same_at None None e = refl
+same_at None (Some b) e = absurd (true≢false (sym e))
+same_at (Some a) None e = absurd (true≢false (sym e))
+same_at (Some a) (Some b) e = ap Some (sym (eqb-true a b e))
 
-lesser-both : (k : ℕ) (a b : CostBound) → Low k (lesser a b) → Low k a × Low k b
-lesser-both k Unbounded b q = (tt, q)
-lesser-both k (Bound x) Unbounded q = (q, tt)
-lesser-both k (Bound x) (Bound y) q = go (leb x y) refl q
+lesser-both : (k : ℕ) (a b : Option ℕ) → Low k (lesser a b) → Low k a × Low k b
+lesser-both k None b q = (tt, q)
+lesser-both k (Some x) None q = (q, tt)
+lesser-both k (Some x) (Some y) q = go (leb x y) refl q
   where
     go : (t : Bool) → leb x y ≡ t → Low k (pick_cost t x y) → (k ≤ x) × (k ≤ y)
     go true e q = omega (arith, leb-true x y e)
     go false e q = omega (arith, leb-false x y e)
 
-lesser-one : (k : ℕ) (a b : CostBound) → lesser a b ≡ Bound k → (a ≡ Bound k) ⊎ (b ≡ Bound k)
-lesser-one k Unbounded b e = inr e
-lesser-one k (Bound x) Unbounded e = inl e
-lesser-one k (Bound x) (Bound y) e = go (leb x y) e
+lesser-one : (k : ℕ) (a b : Option ℕ) → lesser a b ≡ Some k → (a ≡ Some k) ⊎ (b ≡ Some k)
+lesser-one k None b e = inr e
+lesser-one k (Some x) None e = inl e
+lesser-one k (Some x) (Some y) e = go (leb x y) e
   where
-    go : (t : Bool) → pick_cost t x y ≡ Bound k → (Bound x ≡ Bound k) ⊎ (Bound y ≡ Bound k)
+    go : (t : Bool) → pick_cost t x y ≡ Some k → (Some x ≡ Some k) ⊎ (Some y ≡ Some k)
     go true e = inl e
     go false e = inr e
 
@@ -101,37 +96,37 @@ module _ (d : Domain) (ts : List Tree) where
   all-low k (e ∷ es) q zero h = (lesser-both k (held_by d ts e) (least_held d ts es) q).0
   all-low k (e ∷ es) q (suc i) h = all-low k es (lesser-both k (held_by d ts e) (least_held d ts es) q).1 i (omega arith)
 
-  some-least : (k : ℕ) (es : List TreeMemory) → least_held d ts es ≡ Bound k → (j : ℕ) × (j < length es) × (held_by d ts (get_or es j blank) ≡ Bound k)
+  some-least : (k : ℕ) (es : List TreeMemory) → least_held d ts es ≡ Some k → (j : ℕ) × (j < length es) × (held_by d ts (get_or es j blank) ≡ Some k)
   unfolding least_held
   some-least k [] e = absurd (true≢false cc)
   some-least k (x ∷ es) e = go (some-least k es) (lesser-one k (held_by d ts x) (least_held d ts es) e)
     where
-      go : (least_held d ts es ≡ Bound k → (j : ℕ) × (j < length es) × (held_by d ts (get_or es j blank) ≡ Bound k)) → (held_by d ts x ≡ Bound k) ⊎ (least_held d ts es ≡ Bound k)
-          → (j : ℕ) × (j < suc (length es)) × (held_by d ts (get_or (x ∷ es) j blank) ≡ Bound k)
+      go : (least_held d ts es ≡ Some k → (j : ℕ) × (j < length es) × (held_by d ts (get_or es j blank) ≡ Some k)) → (held_by d ts x ≡ Some k) ⊎ (least_held d ts es ≡ Some k)
+          → (j : ℕ) × (j < suc (length es)) × (held_by d ts (get_or (x ∷ es) j blank) ≡ Some k)
       go ih (inl z) = (0, omega arith, z)
       go ih (inr z) = let r = ih z in (suc r.0, omega (arith, r.1), r.2)
 
   -- what an entry holds, if that costs k
-  held-node : (t : Tree) (o : Solution) (k : ℕ) → held_cost d t o ≡ Bound k → (n : ℕ) × (o ≡ At n) × (solution_cost d t.nodes n ≡ k)
-  held-node t Unsolved k e = absurd (true≢false cc)
-  held-node t (At n) k e = (n, refl, cc)
+  held-node : (t : Tree) (o : Option ℕ) (k : ℕ) → held_cost d t o ≡ Some k → (n : ℕ) × (o ≡ Some n) × (solution_cost d t.nodes n ≡ k)
+  held-node t None k e = absurd (true≢false cc)
+  held-node t (Some n) k e = (n, refl, cc)
 
   -- and what it costs, if it holds something
-  low_held : (k : ℕ) (t : Tree) (o : Solution) → ((n : ℕ) → o ≡ At n → k ≤ solution_cost d t.nodes n) → Low k (held_cost d t o)
-  low_held k t Unsolved f = tt
-  low_held k t (At n) f = f n refl
+  low_held : (k : ℕ) (t : Tree) (o : Option ℕ) → ((n : ℕ) → o ≡ Some n → k ≤ solution_cost d t.nodes n) → Low k (held_cost d t o)
+  low_held k t None f = tt
+  low_held k t (Some n) f = f n refl
 
-  unsolved : (t : Tree) (o : Solution) → ((n : ℕ) → ¬ (o ≡ At n)) → held_cost d t o ≡ Unbounded
-  unsolved t Unsolved f = refl
-  unsolved t (At n) f = absurd (f n refl)
+  unsolved : (t : Tree) (o : Option ℕ) → ((n : ℕ) → ¬ (o ≡ Some n)) → held_cost d t o ≡ None
+  unsolved t None f = refl
+  unsolved t (Some n) f = absurd (f n refl)
 
   module _ (s : Search) (fits : s.tree_count ≤ length s.trees) where
     low_run : (k : ℕ) → Low k (least_held d ts (entries s)) → (i n : ℕ) → HoldsRun s i n → k ≤ run_cost d ts s i n
     low_run k q i n h =
-        subst (λ (o : Solution). Low k (held_cost d (tree_of ts s i) o)) h.held
+        subst (λ (o : Option ℕ). Low k (held_cost d (tree_of ts s i) o)) h.held
         (subst (λ (e : TreeMemory). Low k (held_by d ts e)) (entries_at s fits i h.counted) (all-low k (entries s) q i (omega (arith, entries-length s fits, h.counted))))
 
-    least-held : (k : ℕ) → least_held d ts (entries s) ≡ Bound k → LeastHeld d ts s k
+    least-held : (k : ℕ) → least_held d ts (entries s) ≡ Some k → LeastHeld d ts s k
     least-held k e =
         let r = some-least k (entries s) e in
         let j : r.0 < s.tree_count = omega (arith, entries-length s fits, r.1) in
@@ -144,25 +139,25 @@ module _ (d : Domain) (ts : List Tree) where
           least = low_run k (subst (Low k) (sym e) (omega arith));
         }
 
-    nothing-held : least_held d ts (entries s) ≡ Unbounded → (i n : ℕ) → ¬ HoldsRun s i n
+    nothing-held : least_held d ts (entries s) ≡ None → (i n : ℕ) → ¬ HoldsRun s i n
     nothing-held e i n h = absurd (omega (arith, low_run (suc (run_cost d ts s i n)) (subst (Low (suc (run_cost d ts s i n))) (sym e) tt) i n h))
 
-    at_least : (k : ℕ) → LeastHeld d ts s k → least_held d ts (entries s) ≡ Bound k
+    at_least : (k : ℕ) → LeastHeld d ts s k → least_held d ts (entries s) ≡ Some k
     at_least k h =
         least-some d ts k (entries s)
         (at-entries s fits (λ e. Low k (held_by d ts e)) (λ i c. low_held k (tree_of ts s i) (entry s i).solution (λ n z. h.least i n (record { counted = c; held = z }))))
         h.holder (omega (arith, entries-length s fits, h.holds.counted))
-        (ap (held_by d ts) (entries_at s fits h.holder h.holds.counted) ∙ ap (held_cost d (tree_of ts s h.holder)) h.holds.held ∙ ap Bound h.costs)
+        (ap (held_by d ts) (entries_at s fits h.holder h.holds.counted) ∙ ap (held_cost d (tree_of ts s h.holder)) h.holds.held ∙ ap Some h.costs)
 
-    at-nothing : ((i n : ℕ) → ¬ HoldsRun s i n) → least_held d ts (entries s) ≡ Unbounded
+    at-nothing : ((i n : ℕ) → ¬ HoldsRun s i n) → least_held d ts (entries s) ≡ None
     at-nothing f =
         least-none d ts (entries s)
-        (at-entries s fits (λ e. held_by d ts e ≡ Unbounded) (λ i c. unsolved (tree_of ts s i) (entry s i).solution (λ n z. f i n (record { counted = c; held = z }))))
+        (at-entries s fits (λ e. held_by d ts e ≡ None) (λ i c. unsolved (tree_of ts s i) (entry s i).solution (λ n z. f i n (record { counted = c; held = z }))))
 
-    at_same : (x : BestSolution) → ((i n : ℕ) → x ≡ Best i n → LeastHeld d ts s (run_cost d ts s i n)) → (x ≡ NoBest → (i n : ℕ) → ¬ HoldsRun s i n)
+    at_same : (x : Option BestSolution) → ((i n : ℕ) → x ≡ as_best i n → LeastHeld d ts s (run_cost d ts s i n)) → (x ≡ None → (i n : ℕ) → ¬ HoldsRun s i n)
         → same_cost (bound_of d ts s x) (least_held d ts (entries s)) ≡ true
-    at_same NoBest f g = rw (at-nothing (g refl))
-    at_same (Best i n) f g = rw (at_least _ (f i n refl)) (eq-eqb (run_cost d ts s i n) _ refl)
+    at_same None f g = rw (at-nothing (g refl))
+    at_same (Some b) f g = rw (at_least _ (f b.entry b.node refl)) (eq-eqb (run_cost d ts s b.entry b.node) _ refl)
 
 -- ---- both ways
 

@@ -1,17 +1,14 @@
 -- "Tickets taken equal the growth of nodes used less queue length, summed over trees", for every step with any record.
 -- Assumes nothing.
 use mathlib.Core.Path.{◌≡◌, refl}
+use Rattle.std.specs.declared.option.Option.{Option}
+use Rattle.std.specs.Prelude.{None, Some}
 use mathlib.Core.Bool.{Bool, true, false}
-use mathlib.Core.Option.{Option, none, some}
 use mathlib.Core.List.{List, [], ◌∷◌}
 use Prim.Native.Nat.{ℕ, zero, suc, ◌+◌, ◌<◌, ◌≤◌}
 use native.Mathlib.Omega.{arith}
 use borrow.Author.Tests.{not-false}
 use lib.ListN.{length, set, length-set}
-use Rattle.model.specs.declared.CostBound.{CostBound}
-use Rattle.model.specs.declared.KnownLen.{KnownLen}
-use Rattle.model.specs.declared.Solution.{Solution}
-use Rattle.model.specs.declared.Solution.TheVariants.{Unsolved, At}
 use Rattle.model.specs.declared.Search.{Search}
 use Rattle.model.specs.Graph.{Domain, Accepted}
 use Rattle.model.specs.Tree.{Tree}
@@ -32,15 +29,15 @@ sum-set f [] i u h = absurd (omega arith)
 sum-set f (t ∷ ts) zero u h = omega arith
 sum-set f (t ∷ ts) (suc i) u h = omega (arith, sum-set f ts i u (omega arith))
 
-turn-tickets : (d : Domain) → Accepted d.graph → (gs : List ℕ) (b : CostBound) (t : Tree) (known : KnownLen) → Sound d t
+turn-tickets : (d : Domain) → Accepted d.graph → (gs : List ℕ) (b : Option ℕ) (t : Tree) (known : Option ℕ) → Sound d t
     → length (turn d gs b t known).tree.nodes + length t.waiting ≡ (turn d gs b t known).tickets + (length t.nodes + length (turn d gs b t known).tree.waiting)
 unfolding turn
 turn-tickets d acc gs b t known ok = go (lookup d t gs known)
   where
-    go : (o : Solution) → length (turn_by d gs b t o).tree.nodes + length t.waiting
+    go : (o : Option ℕ) → length (turn_by d gs b t o).tree.nodes + length t.waiting
         ≡ (turn_by d gs b t o).tickets + (length t.nodes + length (turn_by d gs b t o).tree.waiting)
-    go Unsolved = (growing.grown d acc gs b t ok 10).tickets
-    go (At n) = omega arith
+    go None = (growing.grown d acc gs b t ok 10).tickets
+    go (Some n) = omega arith
 
 abbrev Slots : Walk → Type 0
 Slots w = (i : ℕ) → i < w.search.tree_count → (entry w.search i).tree < length w.trees
@@ -88,5 +85,5 @@ step-tickets c acc ok s = go (first_fault (step_faults c s)) refl
     run v false = walk-tickets c.domain acc c.trees s ok.trees (valid-at c.domain c.trees s v).slots
 
     go : (o : Option ℕ) → first_fault (step_faults c s) ≡ o → Tickets c.trees (step_by o c s).cache.trees (step_by o c s).tickets
-    go (some n) e = omega arith
-    go none e = run (not-false _ (or-none _ _ _ e).0) s.exhausted
+    go (Some n) e = omega arith
+    go None e = run (not-false _ (or-none _ _ _ e).0) s.exhausted

@@ -1,18 +1,13 @@
 -- What the answers of the calls say in document 01's numbers and values.
 -- Assumes nothing.
-use Rattle.std.specs.Prelude.{Bool, true, false, ℕ}
+use Rattle.std.specs.Prelude.{Bool, true, false, ℕ, Ok, Err}
+use Rattle.std.specs.declared.result.Result.{Result}
 use Rattle.model.specs.declared.Refusal.{Refusal}
 use Rattle.model.specs.declared.Refusal.TheVariants.{Malformed, OutOfOrder, NoSuchVertex, OverLimit, ShortCache, TreesFull, Unsound, InvalidSearch, NotSolved, ShortPath}
 use Rattle.model.specs.declared.SearchStatus.{SearchStatus}
 use Rattle.model.specs.declared.SearchStatus.TheVariants.{Incomplete, Solved, Impossible}
-use Rattle.model.specs.declared.OpenAnswer.{OpenAnswer}
-use Rattle.model.specs.declared.OpenAnswer.TheVariants as opening
-use Rattle.model.specs.declared.InitializeAnswer.{InitializeAnswer}
-use Rattle.model.specs.declared.InitializeAnswer.TheVariants as initializing
-use Rattle.model.specs.declared.StepAnswer.{StepAnswer}
-use Rattle.model.specs.declared.StepAnswer.TheVariants as stepping
-use Rattle.model.specs.declared.RetraceAnswer.{RetraceAnswer}
-use Rattle.model.specs.declared.RetraceAnswer.TheVariants as retracing
+use Rattle.model.specs.declared.Refused.{Refused}
+use Rattle.model.specs.declared.Search.{Search}
 
 -- 01, "Returned instead of an answer", column "No."
 abbrev pub number : Refusal → ℕ
@@ -48,19 +43,20 @@ status Incomplete = waiting
 status (Solved total moves) = solved total moves
 status Impossible = no_path
 
-abbrev pub open_reply : OpenAnswer → Reply (Unit {0})
-open_reply opening.Opened = answered tt
-open_reply (opening.Refused r line) = refused (number r) line
+abbrev pub open_reply : Result (Unit {0}) Refused → Reply (Unit {0})
+open_reply (Ok u) = answered tt
+open_reply (Err f) = refused (number f.refusal) f.line
 
-abbrev pub initialize_reply : InitializeAnswer → Reply (Unit {0})
-initialize_reply initializing.Initialized = answered tt
-initialize_reply (initializing.Refused r line) = refused (number r) line
+-- "0 where no chart line is at fault": of the calls on a cache none is
+abbrev pub initialize_reply : Result Search Refusal → Reply (Unit {0})
+initialize_reply (Ok s) = answered tt
+initialize_reply (Err f) = refused (number f) 0
 
-abbrev pub step_reply : StepAnswer → Reply Status
-step_reply (stepping.Status s) = answered (status s)
-step_reply (stepping.Refused r line) = refused (number r) line
+abbrev pub step_reply : Result SearchStatus Refusal → Reply Status
+step_reply (Ok s) = answered (status s)
+step_reply (Err f) = refused (number f) 0
 
 -- a path is answered by its moves
-abbrev pub retrace_reply : RetraceAnswer → Reply ℕ
-retrace_reply (retracing.Moves n) = answered n
-retrace_reply (retracing.Refused r line) = refused (number r) line
+abbrev pub retrace_reply : Result ℕ Refusal → Reply ℕ
+retrace_reply (Ok n) = answered n
+retrace_reply (Err f) = refused (number f) 0

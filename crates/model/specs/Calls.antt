@@ -1,14 +1,12 @@
 -- The calls on a cache: `initialize`, `step` and `retrace` with their refusals in 01's order. 01 calls a cache a book. Refusal 7 is one of
 -- words: here the trees are sound.
 -- Assumes nothing.
-use Rattle.std.specs.Prelude.{Bool, true, false, not, ◌&&◌, List, [], ◌∷◌, ◌++◌, ℕ, ◌+◌, ◌-◌, ◌*◌, ◌≤◌, leb, ltb, length, drop}
-use Rattle.std.proofs.Math.Option.{Option, none, some}
+use Rattle.std.specs.Prelude.{Bool, true, false, not, ◌&&◌, List, [], ◌∷◌, ◌++◌, ℕ, ◌+◌, ◌-◌, ◌*◌, ◌≤◌, leb, ltb, length, drop, None, Some, Ok, Err}
+use Rattle.std.specs.declared.result.Result.{Result}
+use Rattle.model.specs.declared.Refusal.{Refusal}
+use Rattle.std.specs.declared.option.Option.{Option}
 use Rattle.model.specs.Limits.{list_limit}
-use Rattle.model.specs.declared.Solution.{Solution}
-use Rattle.model.specs.declared.Solution.TheVariants.{Unsolved, At}
 use Rattle.model.specs.declared.BestSolution.{BestSolution}
-use Rattle.model.specs.declared.BestSolution.TheVariants.{NoBest, Best}
-use Rattle.model.specs.declared.RetraceAnswer.{RetraceAnswer}
 use Rattle.model.specs.declared.Search.{Search}
 use Rattle.model.specs.Lists.{all_below}
 use Rattle.model.specs.Answers.{Reply, answered, refused, Status, waiting, solved, no_path, retrace_reply}
@@ -49,11 +47,11 @@ pub record Fault : Type 0 where
   pub given : Bool
 
 abbrev pub or_else : Bool → ℕ → Option ℕ → Option ℕ
-or_else true n o = some n
+or_else true n o = Some n
 or_else false n o = o
 
 abbrev pub first_fault : List Fault → Option ℕ
-first_fault [] = none
+first_fault [] = None
 first_fault (f ∷ fs) = or_else f.given f.number (first_fault fs)
 
 -- ---- opening a search: "7, 4, 3, 6"
@@ -76,8 +74,8 @@ initialize_faults c ss gs =
     ∷ []
 
 abbrev pub initialize_by : Option ℕ → Cache → List ℕ → List ℕ → AfterInitialize
-initialize_by (some n) c ss gs = record { cache = c; search = empty_search; reply = refused n 0 }
-initialize_by none c ss gs =
+initialize_by (Some n) c ss gs = record { cache = c; search = empty_search; reply = refused n 0 }
+initialize_by None c ss gs =
     let p = planted_for c ss gs in
     record { cache = with_trees c p.trees; search = new_search p.entries (goals_of c.domain.direction ss gs); reply = answered tt }
 
@@ -85,18 +83,23 @@ unfoldable pub initialize : Cache → List ℕ → List ℕ → AfterInitialize
 unfolding plant_all
 initialize c ss gs = initialize_by (first_fault (initialize_faults c ss gs)) c ss gs
 
+-- the record that an opening hands back: where it is refused there is none, and the empty one is meant
+abbrev pub opened_search : Result Search Refusal → Search
+opened_search (Ok s) = s
+opened_search (Err f) = empty_search
+
 -- ---- the solution answered: the one that the best's entry holds
 
-abbrev pub shown_by : Search → BestSolution → Solution
-shown_by s NoBest = Unsolved
-shown_by s (Best i n) = (entry s i).solution
+abbrev pub shown_by : Search → Option BestSolution → Option ℕ
+shown_by s None = None
+shown_by s (Some b) = (entry s b.entry).solution
 
-abbrev pub shown : Search → Solution
+abbrev pub shown : Search → Option ℕ
 shown s = shown_by s s.best_solution
 
-abbrev pub shown_tree_by : List Tree → Search → BestSolution → Tree
-shown_tree_by ts s NoBest = no_tree
-shown_tree_by ts s (Best i n) = tree ts (entry s i).tree
+abbrev pub shown_tree_by : List Tree → Search → Option BestSolution → Tree
+shown_tree_by ts s None = no_tree
+shown_tree_by ts s (Some b) = tree ts (entry s b.entry).tree
 
 abbrev pub shown_tree : List Tree → Search → Tree
 shown_tree ts s = shown_tree_by ts s s.best_solution
@@ -112,9 +115,9 @@ pub record AfterStep : Type 0 where
 abbrev pub step_faults : Cache → Search → List Fault
 step_faults c s = record { number = 8; given = not (valid c.domain c.trees s) } ∷ []
 
-abbrev pub status_at : Tree → Solution → Status
-status_at t Unsolved = no_path
-status_at t (At n) = solved (node t.nodes n).cost (moves_of t.nodes n)
+abbrev pub status_at : Tree → Option ℕ → Status
+status_at t None = no_path
+status_at t (Some n) = solved (node t.nodes n).cost (moves_of t.nodes n)
 
 unfoldable pub final_status : List Tree → Search → Status
 final_status ts s = status_at (shown_tree ts s) (shown s)
@@ -127,8 +130,8 @@ step_if false c s =
     record { cache = with_trees c w.trees; search = w.search; reply = answered waiting; tickets = w.tickets }
 
 abbrev pub step_by : Option ℕ → Cache → Search → AfterStep
-step_by (some n) c s = record { cache = c; search = s; reply = refused n 0; tickets = 0 }
-step_by none c s = step_if s.exhausted c s
+step_by (Some n) c s = record { cache = c; search = s; reply = refused n 0; tickets = 0 }
+step_by None c s = step_if s.exhausted c s
 
 unfoldable pub step : Cache → Search → AfterStep
 unfolding walk final_status valid
@@ -141,20 +144,20 @@ pub record AfterRetrace : Type 0 where
   pub path : List ℕ
 
 -- "one that finished as solved"
-abbrev pub is_best : BestSolution → Bool
-is_best NoBest = false
-is_best (Best i n) = true
+abbrev pub is_best : Option BestSolution → Bool
+is_best None = false
+is_best (Some b) = true
 
 abbrev pub solved_already : Search → Bool
 solved_already s = s.exhausted && is_best s.best_solution
 
-abbrev pub moves_at : Tree → Solution → ℕ
-moves_at t Unsolved = 0
-moves_at t (At n) = moves_of t.nodes n
+abbrev pub moves_at : Tree → Option ℕ → ℕ
+moves_at t None = 0
+moves_at t (Some n) = moves_of t.nodes n
 
-abbrev pub words_at : Direction → Tree → Solution → List ℕ
-words_at dir t Unsolved = []
-words_at dir t (At n) = words dir t.nodes n
+abbrev pub words_at : Direction → Tree → Option ℕ → List ℕ
+words_at dir t None = []
+words_at dir t (Some n) = words dir t.nodes n
 
 -- 9 "the search is not one that finished as solved"; 10 "the run slice has under 1 + 2 × moves words"
 abbrev pub retrace_faults : Cache → Search → List ℕ → List Fault
@@ -169,8 +172,8 @@ abbrev pub written : List ℕ → List ℕ → List ℕ
 written ws p = ws ++ drop (length ws) p
 
 abbrev pub retrace_by : Option ℕ → Cache → Search → List ℕ → AfterRetrace
-retrace_by (some n) c s p = record { reply = refused n 0; path = p }
-retrace_by none c s p =
+retrace_by (Some n) c s p = record { reply = refused n 0; path = p }
+retrace_by None c s p =
     let t = shown_tree c.trees s in
     record { reply = answered (moves_at t (shown s)); path = written (words_at c.domain.direction t (shown s)) p }
 
@@ -179,5 +182,5 @@ unfolding valid
 retrace c s p = retrace_by (first_fault (retrace_faults c s p)) c s p
 
 -- an answer and what the path's slice holds then
-abbrev pub after_retrace : RetraceAnswer → List ℕ → AfterRetrace
+abbrev pub after_retrace : Result ℕ Refusal → List ℕ → AfterRetrace
 after_retrace r q = record { reply = retrace_reply r; path = q }

@@ -6,14 +6,9 @@
 -- Ported from open-rmf/mapf (mapf/src: algorithm/dijkstra/forward.rs, algorithm/dijkstra/backward.rs, algorithm/tree.rs, algorithm/path.rs)
 -- and changed; Apache License 2.0, see NOTICE.
 -- Assumes nothing.
-use Rattle.std.specs.Prelude.{◌≡◌, Bool, true, false, List, [], ◌∷◌, ◌++◌, map, ℕ, zero, suc, ◌+◌, ◌*◌, eqb, leb, ltb, length, get_or, set, replicate}
-use Rattle.std.proofs.Math.Option.{Option, none, some}
-use Rattle.model.specs.declared.KnownLen.{KnownLen}
-use Rattle.model.specs.declared.KnownLen.TheVariants.{Never, Len}
-use Rattle.model.specs.declared.Solution.{Solution}
-use Rattle.model.specs.declared.Solution.TheVariants.{Unsolved, At}
+use Rattle.std.specs.Prelude.{◌≡◌, Bool, true, false, List, [], ◌∷◌, ◌++◌, map, ℕ, zero, suc, ◌+◌, ◌*◌, eqb, leb, ltb, length, get_or, set, replicate, None, Some}
+use Rattle.std.specs.declared.option.Option.{Option}
 use Rattle.model.specs.declared.BestSolution.{BestSolution}
-use Rattle.model.specs.declared.BestSolution.TheVariants.{NoBest, Best}
 use Rattle.model.specs.declared.TreeMemory.{TreeMemory}
 use Rattle.model.specs.declared.Search.{Search}
 use Rattle.model.specs.Lists.{mem}
@@ -69,16 +64,16 @@ retrace_node ns n = retrace_from ns n n [] (cost_of (node ns n))
 
 -- `ClosedStatus`: `Open`, or `Closed` by a node
 abbrev pub status_of_word : ℕ → Option ℕ
-status_of_word zero = none
-status_of_word (suc i) = some i
+status_of_word zero = None
+status_of_word (suc i) = Some i
 
 abbrev pub status_for_key : Tree → ℕ → Option ℕ
 status_for_key t v = status_of_word (closed_at t.closed v)
 
 -- `if prior.cost() <= node.cost() { return Ok(()) }`
 abbrev pub rejects : List Node → Node → Option ℕ → Bool
-rejects ns x none = false
-rejects ns x (some prior) = leb (cost_of (node ns prior)) (cost_of x)
+rejects ns x None = false
+rejects ns x (Some prior) = leb (cost_of (node ns prior)) (cost_of x)
 
 abbrev pub push_unless : Bool → Tree → Node → Tree
 push_unless true t x = t
@@ -123,8 +118,8 @@ top_of ns b (i ∷ is) = top_of ns (top_when (ticket_cmp ns i b) i b) is
 
 unfoldable pub top : List Node → List ℕ → Option ℕ
 unfolding top_of
-top ns [] = none
-top ns (i ∷ is) = some (top_of ns i is)
+top ns [] = None
+top ns (i ∷ is) = Some (top_of ns i is)
 
 -- ---- forward.rs: `Memory`, `TreeMemory`
 
@@ -134,7 +129,7 @@ pub record TreeEntry : Type 0 where
   pub solution : Option Path
 
 abbrev pub no_entry : TreeEntry
-no_entry = record { key = 0; last_known_closed_len = none; solution = none }
+no_entry = record { key = 0; last_known_closed_len = None; solution = None }
 
 pub record BestCost : Type 0 where
   pub entry : ℕ
@@ -148,16 +143,16 @@ pub record Memory : Type 0 where
 
 -- `Cache { trees: HashMap<D::Key, SharedCachedTree<D>> }`
 unfoldable pub get : List Tree → ℕ → Option Tree
-get [] key = none
-get (t ∷ ts) key = elim (eqb t.start key) [ true ↦ some t | false ↦ get ts key ]
+get [] key = None
+get (t ∷ ts) key = elim (eqb t.start key) [ true ↦ Some t | false ↦ get ts key ]
 
 unfoldable pub put : List Tree → ℕ → Tree → List Tree
 put [] key u = []
 put (t ∷ ts) key u = elim (eqb t.start key) [ true ↦ u ∷ ts | false ↦ t ∷ put ts key u ]
 
 abbrev pub or_no_tree : Option Tree → Tree
-or_no_tree none = no_tree
-or_no_tree (some t) = t
+or_no_tree None = no_tree
+or_no_tree (Some t) = t
 
 -- ---- forward.rs: `initialize`
 
@@ -166,7 +161,7 @@ pub record Opening : Type 0 where
   pub entries : List TreeEntry
 
 abbrev pub entry_at : ℕ → TreeEntry
-entry_at key = record { key = key; last_known_closed_len = none; solution = none }
+entry_at key = record { key = key; last_known_closed_len = None; solution = None }
 
 -- `CachedTree::new(..)`, then `push_node` of the root
 unfoldable pub planted_tree : Domain → ℕ → Tree
@@ -176,9 +171,9 @@ planted_tree d v = push_node (record { start = v; nodes = []; waiting = []; clos
 -- `Entry::Occupied`: the tree is shared; `Entry::Vacant`: `initial_cost` is `None`, `continue`; else a new tree is inserted
 unfoldable pub opening : Domain → List Tree → ℕ → Option Tree → Bool → Opening
 unfolding planted_tree
-opening d ts v (some t) b = record { trees = ts; entries = entry_at v ∷ [] }
-opening d ts v none true = record { trees = ts; entries = [] }
-opening d ts v none false = record { trees = ts ++ (planted_tree d v ∷ []); entries = entry_at v ∷ [] }
+opening d ts v (Some t) b = record { trees = ts; entries = entry_at v ∷ [] }
+opening d ts v None true = record { trees = ts; entries = [] }
+opening d ts v None false = record { trees = ts ++ (planted_tree d v ∷ []); entries = entry_at v ∷ [] }
 
 unfoldable pub openings : Domain → List Tree → List ℕ → Opening
 unfolding opening get initial_cost
@@ -196,7 +191,7 @@ unfoldable pub forward_initialize : Domain → List Tree → List ℕ → List �
 unfolding openings
 forward_initialize d ts start goal =
     let o = openings d ts start in
-    record { trees = o.trees; memory = record { trees = o.entries; goal_keys = goal; best_solution = none; exhausted = false } }
+    record { trees = o.trees; memory = record { trees = o.entries; goal_keys = goal; best_solution = None; exhausted = false } }
 
 -- backward.rs: `self.backward.initialize(goal.clone(), &start)`
 abbrev pub initialize_in : Direction → Domain → List Tree → List ℕ → List ℕ → Opened
@@ -211,16 +206,16 @@ initialize d ts start goal = initialize_in d.direction d ts start goal
 
 -- `if best_solution.total_cost <= node.cost { continue; }`
 abbrev pub not_better : Option Path → ℕ → Bool
-not_better none k = false
-not_better (some p) k = leb p.total_cost k
+not_better None k = false
+not_better (Some p) k = leb p.total_cost k
 
 abbrev pub path_if : Bool → Option Path → Path → Option Path
 path_if true o p = o
-path_if false o p = some p
+path_if false o p = Some p
 
 abbrev pub look_at : List Node → Option Path → Option ℕ → Option Path
-look_at ns o none = o
-look_at ns o (some n) = path_if (not_better o (cost_of (node ns n))) o (retrace_node ns n)
+look_at ns o None = o
+look_at ns o (Some n) = path_if (not_better o (cost_of (node ns n))) o (retrace_node ns n)
 
 unfoldable pub look_goals : Tree → List ℕ → Option Path → Option Path
 unfolding retrace_node
@@ -229,12 +224,12 @@ look_goals t (key ∷ keys) o = look_goals t keys (look_at t.nodes o (status_for
 
 -- `if Some(closed_set_len) != mt.last_known_closed_len`
 abbrev pub same_len : Option ℕ → ℕ → Bool
-same_len none n = false
-same_len (some k) n = eqb n k
+same_len None n = false
+same_len (Some k) n = eqb n k
 
 abbrev pub look_unless : Bool → Tree → List ℕ → Option Path
-look_unless true t keys = none
-look_unless false t keys = look_goals t keys none
+look_unless true t keys = None
+look_unless false t keys = look_goals t keys None
 
 -- ---- forward.rs: `step`, the growing: `'grow: for _ in 0..memory.iterations_per_step`
 
@@ -261,13 +256,13 @@ closing t v top = record { start = t.start; nodes = t.nodes; waiting = t.waiting
 
 -- `if *cost_bound < top.cost { break 'grow; }`
 abbrev pub past_bound : Option ℕ → ℕ → Bool
-past_bound none k = false
-past_bound (some b) k = ltb b k
+past_bound None k = false
+past_bound (Some b) k = ltb b k
 
 -- `if *top_key == *goal_key { .. break 'grow; }`, then the bound
 abbrev pub end_ticket : Bool → Bool → Tree → ℕ → Growing
-end_ticket true past t top = record { tree = t; solution = some (retrace_node t.nodes top); broken = true }
-end_ticket false past t top = record { tree = t; solution = none; broken = past }
+end_ticket true past t top = record { tree = t; solution = Some (retrace_node t.nodes top); broken = true }
+end_ticket false past t top = record { tree = t; solution = None; broken = past }
 
 unfoldable pub expand_top : Domain → List ℕ → Option ℕ → Tree → ℕ → Growing
 unfolding push_choices retrace_node edges_from_vertex domain mem
@@ -279,14 +274,14 @@ expand_top d keys bound t top =
 -- `CloseResult::Rejected { prior, .. }`: `if prior_node.cost <= top.cost { continue; }`, else `*prior = top_id`
 unfoldable pub close_top : Domain → List ℕ → Option ℕ → Tree → ℕ → Bool → Growing
 unfolding expand_top
-close_top d keys bound t top true = record { tree = t; solution = none; broken = false }
+close_top d keys bound t top true = record { tree = t; solution = None; broken = false }
 close_top d keys bound t top false = expand_top d keys bound t top
 
 -- `let top_id = match cache.tree.queue.pop() { .. None => break }`
 unfoldable pub pop_top : Domain → List ℕ → Option ℕ → Tree → Option ℕ → Growing
 unfolding close_top popped
-pop_top d keys bound t none = record { tree = t; solution = none; broken = true }
-pop_top d keys bound t (some top) =
+pop_top d keys bound t None = record { tree = t; solution = None; broken = true }
+pop_top d keys bound t (Some top) =
     close_top d keys bound (popped t top) top (rejects t.nodes (node t.nodes top) (status_for_key t (node t.nodes top).vertex))
 
 abbrev pub iterate : Domain → List ℕ → Option ℕ → Growing → Bool → Growing
@@ -305,14 +300,14 @@ pub record Stepping : Type 0 where
   pub memory : Memory
 
 abbrev pub cost_bound : Option BestCost → Option ℕ
-cost_bound none = none
-cost_bound (some b) = some b.cost
+cost_bound None = None
+cost_bound (Some b) = Some b.cost
 
 -- `queue.peek().filter(|t| t.0.evaluation < *cost_bound)`
 abbrev pub peeks : List Node → Option ℕ → Option ℕ → Bool
-peeks ns none bound = false
-peeks ns (some n) none = true
-peeks ns (some n) (some b) = ltb (evaluation ns n) b
+peeks ns None bound = false
+peeks ns (Some n) None = true
+peeks ns (Some n) (Some b) = ltb (evaluation ns n) b
 
 -- what the turn leaves before the solution is looked at
 pub record TurnEnd : Type 0 where
@@ -330,7 +325,7 @@ unfolding closed_count top
 grown_end g bound x =
     record {
       tree = g.tree;
-      known = some (closed_count g.tree.closed);
+      known = Some (closed_count g.tree.closed);
       solution = g.solution;
       exhausted = exhausted_unless (peeks g.tree.nodes (top g.tree.nodes g.tree.waiting) bound) x;
     }
@@ -338,37 +333,37 @@ grown_end g bound x =
 -- `if tree_solution.is_none() { .. }`
 unfoldable pub turn_end : Domain → List ℕ → Option ℕ → Tree → Option ℕ → Bool → Option Path → TurnEnd
 unfolding grow_tree grown_end
-turn_end d keys bound t known x (some p) = record { tree = t; known = known; solution = some p; exhausted = x }
-turn_end d keys bound t known x none = grown_end (grow_tree d keys bound 10 (record { tree = t; solution = none; broken = false })) bound x
+turn_end d keys bound t known x (Some p) = record { tree = t; known = known; solution = Some p; exhausted = x }
+turn_end d keys bound t known x None = grown_end (grow_tree d keys bound 10 (record { tree = t; solution = None; broken = false })) bound x
 
 -- `mt.solution.filter(|prior_solution| prior_solution.total_cost < solution.total_cost).is_none()`
 abbrev pub prior_cheaper : Option Path → Path → Bool
-prior_cheaper none p = false
-prior_cheaper (some q) p = ltb q.total_cost p.total_cost
+prior_cheaper None p = false
+prior_cheaper (Some q) p = ltb q.total_cost p.total_cost
 
 abbrev pub best_when : Bool → ℕ → ℕ → BestCost → Option BestCost
-best_when true i k b = some (record { entry = i; cost = k })
-best_when false i k b = some b
+best_when true i k b = Some (record { entry = i; cost = k })
+best_when false i k b = Some b
 
 abbrev pub best_after : Option BestCost → ℕ → ℕ → Option BestCost
-best_after none i k = some (record { entry = i; cost = k })
-best_after (some b) i k = best_when (ltb k b.cost) i k b
+best_after None i k = Some (record { entry = i; cost = k })
+best_after (Some b) i k = best_when (ltb k b.cost) i k b
 
 abbrev pub best_unless : Bool → Option BestCost → ℕ → Path → Option BestCost
 best_unless true b i p = b
 best_unless false b i p = best_after b i p.total_cost
 
 abbrev pub best_turn : Option Path → Option Path → Option BestCost → ℕ → Option BestCost
-best_turn prior none b i = b
-best_turn prior (some p) b i = best_unless (prior_cheaper prior p) b i p
+best_turn prior None b i = b
+best_turn prior (Some p) b i = best_unless (prior_cheaper prior p) b i p
 
 abbrev pub solution_unless : Bool → Option Path → Path → Option Path
 solution_unless true prior p = prior
-solution_unless false prior p = some p
+solution_unless false prior p = Some p
 
 abbrev pub solution_turn : Option Path → Option Path → Option Path
-solution_turn prior none = prior
-solution_turn prior (some p) = solution_unless (prior_cheaper prior p) prior p
+solution_turn prior None = prior
+solution_turn prior (Some p) = solution_unless (prior_cheaper prior p) prior p
 
 -- one turn of `for (tree_i, mt) in memory.trees.iter_mut().enumerate()`
 unfoldable pub turn_of : Domain → ℕ → Stepping → Stepping
@@ -408,12 +403,12 @@ in_chart forward p = p
 in_chart backward p = backtrack p
 
 abbrev pub solved_by : Direction → Option Path → SearchStatus
-solved_by dir none = MissingSolutionReference
-solved_by dir (some p) = Solved (in_chart dir p)
+solved_by dir None = MissingSolutionReference
+solved_by dir (Some p) = Solved (in_chart dir p)
 
 abbrev pub finished : Direction → Memory → Option BestCost → SearchStatus
-finished dir m none = Impossible
-finished dir m (some b) = solved_by dir (get_or m.trees b.entry no_entry).solution
+finished dir m None = Impossible
+finished dir m (Some b) = solved_by dir (get_or m.trees b.entry no_entry).solution
 
 pub record Answered : Type 0 where
   pub trees : List Tree
@@ -433,23 +428,19 @@ step d ts m = step_when m.exhausted d ts m
 
 -- ---- our record read as the Rust's, its nodes as their paths
 
-abbrev pub read_known : KnownLen → Option ℕ
-read_known Never = none
-read_known (Len n) = some n
-
-abbrev pub read_solution : List Node → Solution → Option Path
-read_solution ns Unsolved = none
-read_solution ns (At n) = some (retrace_node ns n)
+abbrev pub read_solution : List Node → Option ℕ → Option Path
+read_solution ns None = None
+read_solution ns (Some n) = Some (retrace_node ns n)
 
 unfoldable pub read_entry : List Tree → TreeMemory → TreeEntry
 unfolding retrace_node
 read_entry ts e =
     let t = tree ts e.tree in
-    record { key = t.start; last_known_closed_len = read_known e.last_known_closed_len; solution = read_solution t.nodes e.solution }
+    record { key = t.start; last_known_closed_len = e.last_known_closed_len; solution = read_solution t.nodes e.solution }
 
-abbrev pub read_best : Domain → List Tree → Search → BestSolution → Option BestCost
-read_best d ts s NoBest = none
-read_best d ts s (Best i n) = some (record { entry = i; cost = solution_cost d (tree ts (entry s i).tree).nodes n })
+abbrev pub read_best : Domain → List Tree → Search → Option BestSolution → Option BestCost
+read_best d ts s None = None
+read_best d ts s (Some b) = Some (record { entry = b.entry; cost = solution_cost d (tree ts (entry s b.entry).tree).nodes b.node })
 
 unfoldable pub read_memory : Domain → List Tree → Search → Memory
 unfolding read_entry
@@ -460,8 +451,8 @@ read_memory d ts s =
 -- made of two both are made
 
 abbrev pub trees_when : Option ℕ → List Tree → List Tree → List Tree
-trees_when none us ts = us
-trees_when (some n) us ts = ts
+trees_when None us ts = us
+trees_when (Some n) us ts = ts
 
 unfoldable pub after : Cache → Call → Cache
 unfolding initialize step read_memory

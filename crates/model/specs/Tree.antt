@@ -1,9 +1,7 @@
 -- A tree of a cache, and growing it ticket by ticket.
 -- Assumes nothing.
-use Rattle.std.specs.Prelude.{Bool, true, false, not, ◌&&◌, ◌||◌, List, [], ◌∷◌, ◌++◌, ℕ, zero, suc, eqb, leb, ltb, length, get_or, set, replicate}
-use Rattle.std.proofs.Math.Option.{Option, none, some}
-use Rattle.model.specs.declared.CostBound.{CostBound}
-use Rattle.model.specs.declared.CostBound.TheVariants.{Unbounded, Bound}
+use Rattle.std.specs.Prelude.{Bool, true, false, not, ◌&&◌, ◌||◌, List, [], ◌∷◌, ◌++◌, ℕ, zero, suc, eqb, leb, ltb, length, get_or, set, replicate, None, Some}
+use Rattle.std.specs.declared.option.Option.{Option}
 use Rattle.model.specs.Lists.{keep, mem}
 use Rattle.model.specs.Graph.{Domain, choices, vertex_count}
 pub use Rattle.model.specs.Worth.{Node, no_node, node, root_node, child, evaluation_of, evaluation, weight}
@@ -37,8 +35,8 @@ least_of ns b (i ∷ is) = least_of ns (pick (precedes ns i b) i b) is
 
 unfoldable pub least : List Node → List ℕ → Option ℕ
 unfolding least_of
-least ns [] = none
-least ns (i ∷ is) = some (least_of ns i is)
+least ns [] = None
+least ns (i ∷ is) = Some (least_of ns i is)
 
 unfoldable pub without : ℕ → List ℕ → List ℕ
 without n [] = []
@@ -94,9 +92,9 @@ pub record Growth : Type 0 where
   pub tickets : ℕ
   pub going : Going
 
-abbrev pub above : ℕ → CostBound → Bool
-above k Unbounded = false
-above k (Bound b) = ltb b k
+abbrev pub above : ℕ → Option ℕ → Bool
+above k None = false
+above k (Some b) = ltb b k
 
 -- "a wanted motif is a find and stops; then a cost above the bound stops"
 abbrev pub going_on : Bool → Bool → ℕ → Going
@@ -105,26 +103,26 @@ going_on false true n = over
 going_on false false n = on
 
 -- node n was popped; is its vertex closed? "A ticket for a closed motif is spent and skipped. Any other closes its motif .."
-unfoldable pub taken : Domain → List ℕ → CostBound → Tree → ℕ → ℕ → Bool → Growth
+unfoldable pub taken : Domain → List ℕ → Option ℕ → Tree → ℕ → ℕ → Bool → Growth
 unfolding popped expanded mem
 taken d goals b t k n true = record { tree = popped t n; tickets = suc k; going = on }
 taken d goals b t k n false =
     record { tree = expanded d (popped t n) n; tickets = suc k; going = going_on (mem (node t.nodes n).vertex goals) (above (evaluation t.nodes n) b) n }
 
 -- "No ticket left ends the growing"
-unfoldable pub ticket_of : Domain → List ℕ → CostBound → Tree → ℕ → Option ℕ → Growth
+unfoldable pub ticket_of : Domain → List ℕ → Option ℕ → Tree → ℕ → Option ℕ → Growth
 unfolding taken
-ticket_of d goals b t k none = record { tree = t; tickets = k; going = over }
-ticket_of d goals b t k (some n) = taken d goals b t k n (not (eqb (closed_at t.closed (node t.nodes n).vertex) 0))
+ticket_of d goals b t k None = record { tree = t; tickets = k; going = over }
+ticket_of d goals b t k (Some n) = taken d goals b t k n (not (eqb (closed_at t.closed (node t.nodes n).vertex) 0))
 
-unfoldable pub ticket : Domain → List ℕ → CostBound → Tree → ℕ → Going → Growth
+unfoldable pub ticket : Domain → List ℕ → Option ℕ → Tree → ℕ → Going → Growth
 unfolding ticket_of least
 ticket d goals b t k on = ticket_of d goals b t k (least t.nodes t.waiting)
 ticket d goals b t k (found i) = record { tree = t; tickets = k; going = found i }
 ticket d goals b t k over = record { tree = t; tickets = k; going = over }
 
 -- "at most ten tickets": the count falls
-unfoldable pub grow : Domain → List ℕ → CostBound → ℕ → Growth → Growth
+unfoldable pub grow : Domain → List ℕ → Option ℕ → ℕ → Growth → Growth
 unfolding ticket
 grow d goals b zero g = g
 grow d goals b (suc j) g = grow d goals b j (ticket d goals b g.tree g.tickets g.going)

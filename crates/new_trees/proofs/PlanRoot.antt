@@ -2,46 +2,47 @@
 -- Assumes nothing.
 use mathlib.Core.Path.{◌≡◌, sym, ap, ap₂, ◌∙◌}
 use mathlib.Core.Bool.{Bool, false}
-use mathlib.Core.List.{List}
+use mathlib.Core.List.{List, [], ◌∷◌, ◌++◌}
 use Prim.Native.Nat.{ℕ, suc, ◌+◌, ◌-◌}
 use native.Mathlib.Omega.{arith}
 use borrow.Author.Tests.{eq-eqb, ne_eqb}
 use lib.Dec.{eqb}
-use lib.ListN.{get_or, set}
+use lib.ListN.{length, get_or, set}
 use Rattle.model.specs.declared.Search.{Search}
 use Rattle.model.specs.Graph.{absent, root_cost, initial_cost}
 use Rattle.model.specs.Search.{with_entry}
 use Rattle.layout.specs.Layout.{initial_in, direction_in, trees_in}
 use Rattle.layout.specs.Read.{direction_of, read_cache}
+use Rattle.arrayvec.specs.ArrayVec.{ArrayVec}
 use Rattle.new_trees.specs.declared.TreePlan.{TreePlan}
 use Rattle.new_trees.specs.Plant.{Planning, plan_if, CanPlanRoot, PlansRoot}
 use Rattle.new_trees.proofs.Planting.{root-cost-is}
 
-module _ {ws table : List ℕ} {p : TreePlan} {v : ℕ} (h : CanPlanRoot ws table p v) {w c : ℕ} (ew : w ≡ v) (ec : c ≡ root_cost (direction_of (direction_in ws)) (initial_in ws w)) where
+module _ {ws table : List ℕ} {p : TreePlan} {v : ℕ} (h : CanPlanRoot ws table p v) {c : ℕ} (ec : c ≡ root_cost (direction_of (direction_in ws)) (initial_in ws v)) where
   abbrev g : Planning
   g = record { plan = p; table = table }
 
   cost : c ≡ initial_cost (read_cache ws).domain v
-  cost = root-cost-is h.sound h.vertex ew ec
+  cost = root-cost-is h.sound h.vertex ec
 
   pub plan-skips : c ≡ absent → PlansRoot ws table p v p table
   plan-skips e = sym (ap (λ (b : Bool). plan_if b (get_or table v 0) (trees_in ws) v g) (eq-eqb (initial_cost (read_cache ws).domain v) absent (sym cost ∙ e)))
 
-  module _ (some : c ≡ absent → ⊥) {x s : ℕ} (ex : x ≡ v) (es : s ≡ get_or table x 0) where
-    slot : get_or table v 0 ≡ s
-    slot = ap (λ (n : ℕ). get_or table n 0) (sym ex) ∙ sym es
+  module _ (some : c ≡ absent → ⊥) where
+    abbrev s : ℕ
+    s = get_or table v 0
 
-    by-slot : {n : ℕ} → s ≡ n → plan_if (eqb (initial_cost (read_cache ws).domain v) absent) (get_or table v 0) (trees_in ws) v g ≡ plan_if false n (trees_in ws) v g
-    by-slot e = ap₂ (λ (b : Bool) (n : ℕ). plan_if b n (trees_in ws) v g) (ne_eqb (initial_cost (read_cache ws).domain v) absent (λ z. some (cost ∙ z))) (slot ∙ e)
+    by-slot : {n : ℕ} → s ≡ n → plan_if (eqb (initial_cost (read_cache ws).domain v) absent) s (trees_in ws) v g ≡ plan_if false n (trees_in ws) v g
+    by-slot e = ap₂ (λ (b : Bool) (n : ℕ). plan_if b n (trees_in ws) v g) (ne_eqb (initial_cost (read_cache ws).domain v) absent (λ z. some (cost ∙ z))) e
 
-    pub plan-shares : (s ≡ 0 → ⊥) → {q : Search} → q ≡ with_entry p.search (s - 1) → PlansRoot ws table p v (record { search = q; starts = p.starts; count = p.count }) table
-    plan-shares nz e = (λ i. record { plan = record { search = e i; starts = p.starts; count = p.count }; table = table }) ∙ sym (by-slot {n = suc (s - 1)} (omega (arith, nz)))
+    pub plan-shares : (s ≡ 0 → ⊥) → {q : Search} → q ≡ with_entry p.search (s - 1) → PlansRoot ws table p v (record { search = q; starts = p.starts }) table
+    plan-shares nz e = (λ i. record { plan = record { search = e i; starts = p.starts }; table = table }) ∙ sym (by-slot {n = suc (s - 1)} (omega (arith, nz)))
 
-    pub plan-plants : s ≡ 0 → {u y : ℕ} → u ≡ trees_in ws → y ≡ v → {q : Search} → q ≡ with_entry p.search (u + p.count)
-        → PlansRoot ws table p v (record { search = q; starts = set p.starts p.count v; count = p.count + 1 }) (set table y (u + p.count + 1))
-    plan-plants z eu ey e =
+    pub plan-plants : s ≡ 0 → {u n : ℕ} → u ≡ trees_in ws → n ≡ length p.starts.items → {q : Search} → q ≡ with_entry p.search (u + n)
+        → {us : ArrayVec ℕ} → us.items ≡ p.starts.items ++ v ∷ [] → PlansRoot ws table p v (record { search = q; starts = us }) (set table v (u + n + 1))
+    plan-plants z eu en e eus =
         (λ i. record {
-          plan = record { search = (e ∙ ap (λ (n : ℕ). with_entry p.search (n + p.count)) eu) i; starts = set p.starts p.count v; count = p.count + 1 };
-          table = set table (ey i) (eu i + p.count + 1);
+          plan = record { search = (e ∙ ap₂ (λ (a b : ℕ). with_entry p.search (a + b)) eu en) i; starts = record { items = eus i } };
+          table = set table v (eu i + en i + 1);
         })
         ∙ sym (by-slot {n = 0} z)

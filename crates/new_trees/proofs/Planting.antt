@@ -2,10 +2,10 @@
 -- Assumes nothing.
 use mathlib.Core.Path.{◌≡◌, refl, sym, ap, ◌∙◌}
 use mathlib.Core.List.{List, [], ◌∷◌, ◌++◌, append-nil}
-use Prim.Native.Nat.{ℕ, ◌+◌, ◌-◌, ◌<◌, ◌≤◌}
+use Prim.Native.Nat.{ℕ, ◌+◌, ◌-◌, ◌<◌}
 use native.Mathlib.Omega.{arith}
 use lib.ListN.{length, get_or, set, take, length-take}
-use lib.Seq.{sets, take_all}
+use lib.Seq.{sets}
 use borrow.Rule.Slice.PartMut.{put_mid, mid_of}
 use Rattle.model.specs.Graph.{Domain, root_cost, initial_cost}
 use Rattle.model.specs.Tree.{Tree}
@@ -24,19 +24,18 @@ use Rattle.new_trees.proofs.Planted.{fits, root-inside, plants}
 use Rattle.new_trees.proofs.NewTrees.{take_next, new-append, new-length, sound-new}
 
 -- the cost of a root, as the words have it
-pub root-cost-is : {ws : List ℕ} → SoundWords ws → {v w c : ℕ} → v < vertices_in ws → w ≡ v → c ≡ root_cost (direction_of (direction_in ws)) (initial_in ws w)
+pub root-cost-is : {ws : List ℕ} → SoundWords ws → {v c : ℕ} → v < vertices_in ws → c ≡ root_cost (direction_of (direction_in ws)) (initial_in ws v)
     → c ≡ initial_cost (read_cache ws).domain v
 unfolding read_cache
-root-cost-is {ws} ok {v} b e c =
+root-cost-is {ws} ok {v} b c =
     c
-    ∙ ap (λ (x : ℕ). root_cost (direction_of (direction_in ws)) (initial_in ws x)) e
     ∙ sym (start-cost (vertices_in ws) (edges_in ws) ws v b (omega (arith, ok.held.fits)))
 
 -- ---- one tree
 
 module _ {ws : List ℕ} {v : ℕ} (h : CanPlant ws v) where
-  pub root-word : {w : ℕ} → w ≡ v → initial_at + w < length ws
-  root-word e = omega (arith, e, root-inside ws v h, h.sound.held.fits)
+  pub root-word : initial_at + v < length ws
+  root-word = omega (arith, root-inside ws v h, h.sound.held.fits)
 
   -- s: the next slot, by its number u
   module _ {u : ℕ} (eu : u ≡ trees_in ws) where
@@ -46,9 +45,9 @@ module _ {ws : List ℕ} {v : ℕ} (h : CanPlant ws v) where
       fits = rw eu (fits ws v h);
     }
 
-    module _ {s : Slot} (es : s ≡ slot_of ws u) {w c : ℕ} (ew : w ≡ v) (ec : c ≡ root_cost (direction_of (direction_in ws)) (initial_in ws w)) where
+    module _ {s : Slot} (es : s ≡ slot_of ws u) {c : ℕ} (ec : c ≡ root_cost (direction_of (direction_in ws)) (initial_in ws v)) where
       cost : c ≡ initial_cost (read_cache ws).domain v
-      cost = root-cost-is h.sound (root-inside ws v h) ew ec
+      cost = root-cost-is h.sound (root-inside ws v h) ec
 
       pub plant-ends : (ys : List ℕ) → ys ≡ sets (mid_of s.at (s.end - s.at) ws) 0 (root_words v c)
           → Plants ws v (set (put_mid s.at (s.end - s.at) ws ys) tree_count_at (u + 1))
@@ -116,6 +115,3 @@ module _ {ws vs left : List ℕ} {i : ℕ} (h : CanPlantAll ws vs) (p : PlantsAl
     cache = q.cache ∙ ap (λ (c : Cache). with_trees c (with_new c.domain c.trees (v ∷ []))) p.cache ∙ ap (with_trees (read_cache ws)) one_more;
     sound = q.sound;
   }
-
-pub planting-all : {ws vs left : List ℕ} {i : ℕ} → PlantsAll ws (take i vs) left → length vs ≤ i → PlantsAll ws vs left
-planting-all {ws} {vs} {left} {i} p e = rw (take_all i vs e) at p

@@ -1,14 +1,14 @@
 -- Roots planned one after the other, as the model plants them.
 -- Assumes nothing.
 use mathlib.Core.Path.{◌≡◌, refl, sym, ap, ◌∙◌, subst}
+use Rattle.std.specs.declared.option.Option.{Option}
+use Rattle.std.specs.Prelude.{None, Some}
 use mathlib.Core.Bool.{Bool, true, false}
-use mathlib.Core.Option.{Option, none, some}
 use mathlib.Core.List.{List, [], ◌∷◌, ◌++◌, append-nil, append_assoc}
-use Prim.Native.Nat.{ℕ, suc, ◌+◌, ◌<◌, ◌≤◌}
+use Prim.Native.Nat.{ℕ, ◌+◌, ◌<◌, ◌≤◌}
 use native.Mathlib.Omega.{arith}
 use lib.Dec.{eqb}
-use lib.ListN.{length, get_or, set, take, drop, replicate, length-set, length-append, length-take, drop_of_length-le}
-use lib.Seq.{take-suc-set, take_all}
+use lib.ListN.{length, get_or, take, length-append}
 use Rattle.model.specs.declared.TreeMemory.{TreeMemory}
 use Rattle.model.specs.declared.Search.{Search}
 use Rattle.model.specs.Graph.{Domain, absent, initial_cost}
@@ -17,8 +17,9 @@ use Rattle.model.specs.Search.{blank, entry_of, with_entry, seek, Planted, plant
 use Rattle.model.proofs.Filled.{set-filled}
 use Rattle.layout.specs.Read.{read_cache}
 use Rattle.sound.proofs.Facts.{trees-length}
+use Rattle.arrayvec.specs.ArrayVec.{ArrayVec}
 use Rattle.new_trees.specs.declared.TreePlan.{TreePlan}
-use Rattle.new_trees.specs.Plant.{with_new, CanPlan, Plans, slot_word, SlotTable, CanPlanRoot, Planning, plan_if, PlansRoot}
+use Rattle.new_trees.specs.Plant.{with_new, CanPlan, slot_word, SlotTable, Planning, plan_if, PlansRoot}
 use Rattle.layout.specs.Planted.{planted_in}
 use Rattle.new_trees.proofs.NewTrees.{take_next, new-append, new-length}
 use Rattle.new_trees.proofs.Table.{table_more}
@@ -61,9 +62,8 @@ entry_more es i h = λ x. record {
 pub record Matches (ws : List ℕ) (q : Planted) (n : ℕ) (p : TreePlan) (table : List ℕ) : Type 0 where
   pub search : p.search ≡ new_search q.entries []
   pub short : length q.entries ≤ n
-  pub count : p.count ≤ n
-  pub starts : length p.starts ≡ 64
-  pub trees : q.trees ≡ with_new (read_cache ws).domain (read_cache ws).trees (take p.count p.starts)
+  pub count : length p.starts.items ≤ n
+  pub trees : q.trees ≡ with_new (read_cache ws).domain (read_cache ws).trees p.starts.items
   pub slots : SlotTable q.trees table
 
 module _ {ws : List ℕ} {q : Planted} {n : ℕ} {p : TreePlan} {table : List ℕ} (h : Matches ws q n p table) (few : n < 64) where
@@ -73,8 +73,8 @@ module _ {ws : List ℕ} {q : Planted} {n : ℕ} {p : TreePlan} {table : List �
   abbrev ts : List Tree
   ts = (read_cache ws).trees
 
-  next-slot : length q.trees ≡ trees_in ws + p.count
-  next-slot = omega (arith, ap length h.trees, new-length d ts (take p.count p.starts), length-take p.count p.starts, h.starts, h.count, trees-length ws)
+  next-slot : length q.trees ≡ trees_in ws + length p.starts.items
+  next-slot = omega (arith, ap length h.trees, new-length d ts p.starts.items, trees-length ws)
 
   entered : (i : ℕ) → with_entry p.search i ≡ new_search (q.entries ++ (entry_of i ∷ [])) []
   entered i = ap (λ (s : Search). with_entry s i) h.search ∙ entry_more q.entries i (omega (arith, h.short))
@@ -89,52 +89,38 @@ module _ {ws : List ℕ} {q : Planted} {n : ℕ} {p : TreePlan} {table : List �
     search = h.search ∙ ap (λ (es : List TreeMemory). new_search es []) (sym (append-nil q.entries));
     short = rw (append-nil q.entries) (omega (arith, h.short));
     count = omega (arith, h.count);
-    starts = h.starts;
     trees = h.trees;
     slots = h.slots;
   }
-  root-matches v k false (some i) e = record {
+  root-matches v k false (Some i) e = record {
     search = entered i;
     short = more (entry_of i);
     count = omega (arith, h.count);
-    starts = h.starts;
     trees = h.trees;
     slots = h.slots;
   }
-  root-matches v k false none e = record {
-    search = entered (trees_in ws + p.count) ∙ ap (λ (i : ℕ). new_search (q.entries ++ (entry_of i ∷ [])) []) (sym next-slot);
+  root-matches v k false None e = record {
+    search = entered (trees_in ws + length p.starts.items) ∙ ap (λ (i : ℕ). new_search (q.entries ++ (entry_of i ∷ [])) []) (sym next-slot);
     short = more (entry_of (length q.trees));
-    count = omega (arith, h.count);
-    starts = length-set p.starts p.count v ∙ h.starts;
-    trees =
-        let one : p.count + 1 ≡ suc p.count = omega arith in
-        ap (λ (us : List Tree). us ++ (new_tree d v ∷ [])) h.trees
-        ∙ new-append d ts (take p.count p.starts) (v ∷ [])
-        ∙ ap (with_new d ts) (sym (take-suc-set p.starts p.count v (omega (arith, h.starts, h.count))) ∙ ap (λ (m : ℕ). take m (set p.starts p.count v)) (sym one));
+    count = omega (arith, length-append p.starts.items (v ∷ []), h.count);
+    trees = ap (λ (us : List Tree). us ++ (new_tree d v ∷ [])) h.trees ∙ new-append d ts p.starts.items (v ∷ []);
     slots = table_more h.slots (new_tree d v) (unfold new_tree in refl) k e (omega (arith, next-slot));
   }
 
--- ---- the loop over the roots: the table is lent whole, as a part
+-- ---- the loop over the roots
 
-pub matches-none : {ws table : List ℕ} {s : Search} → s ≡ empty_search → SlotTable (read_cache ws).trees table
-    → Matches ws (planted_in ws []) 0 (record { search = s; starts = replicate 64 0; count = 0 }) (table ++ [])
+pub matches-none : {ws table : List ℕ} {s : Search} {us : ArrayVec ℕ} → s ≡ empty_search → us.items ≡ [] → SlotTable (read_cache ws).trees table
+    → Matches ws (planted_in ws []) 0 (record { search = s; starts = us }) table
 unfolding plant_all
-matches-none {ws} {table} e h = record {
+matches-none {ws} e none h = record {
   search = e;
   short = omega arith;
-  count = omega arith;
-  starts = refl;
-  trees = sym (append-nil (read_cache ws).trees);
-  slots = rw (append-nil table) h;
+  count = omega (arith, ap length none);
+  trees = sym (ap (with_new (read_cache ws).domain (read_cache ws).trees) none ∙ append-nil (read_cache ws).trees);
+  slots = h;
 }
 
 module _ {ws vs table : List ℕ} {p : TreePlan} {i : ℕ} (ok : CanPlan ws vs) (h : Matches ws (planted_in ws (take i vs)) i p table) where
-  pub table-room : 1024 ≤ length table
-  table-room = omega (arith, h.slots.len)
-
-  lent : take 1024 table ≡ table
-  lent = take_all 1024 table (omega (arith, h.slots.len))
-
   module _ (b : i < length vs) where
     abbrev v : ℕ
     v = get_or vs i 0
@@ -144,15 +130,6 @@ module _ {ws vs table : List ℕ} {p : TreePlan} {i : ℕ} (ok : CanPlan ws vs) 
 
     small : v < 1024
     small = omega (arith, ok.vertices i b, ok.sound.held.sized.vertices)
-
-    pub can-plan-root : CanPlanRoot ws (take 1024 table) p (get_or vs i 0)
-    can-plan-root = record {
-      sound = ok.sound;
-      len = rw lent h.slots.len;
-      entries = omega (arith, ap (λ (s : Search). s.tree_count) h.search, h.short, ok.few);
-      count = omega (arith, h.count, ok.few);
-      vertex = ok.vertices i b;
-    }
 
     all : planted_in ws (take (i + 1) vs) ≡ with_root (read_cache ws).domain q v
     all = ap (plant_all (read_cache ws).domain (read_cache ws).trees) (take_next 0 vs i b) ∙ plants-snoc (read_cache ws).domain (read_cache ws).trees (take i vs) v
@@ -164,14 +141,8 @@ module _ {ws vs table : List ℕ} {p : TreePlan} {i : ℕ} (ok : CanPlan ws vs) 
     matches : let g = planned table (slot_word (seek q.trees v 0)) in Matches ws (with_root (read_cache ws).domain q v) (i + 1) g.plan g.table
     matches = root-matches h (omega (arith, ok.few)) v small (eqb (initial_cost (read_cache ws).domain v) absent) (seek q.trees v 0) refl
 
-    pub matches-next : {r : TreePlan} {t : List ℕ} → PlansRoot ws (take 1024 table) p (get_or vs i 0) r t → Matches ws (planted_in ws (take (i + 1) vs)) (i + 1) r (t ++ drop 1024 table)
+    pub matches-next : {r : TreePlan} {t : List ℕ} → PlansRoot ws table p (get_or vs i 0) r t → Matches ws (planted_in ws (take (i + 1) vs)) (i + 1) r t
     matches-next {r} {t} e =
         let plan : ◌≡◌ {A = Planning} (record { plan = r; table = t }) (planned table (slot_word (seek q.trees v 0))) =
-        e ∙ ap (λ (x : List ℕ). planned x (get_or x v 0)) lent ∙ ap (planned table) (h.slots.slot v small) in
-        let back : t ++ drop 1024 table ≡ t = ap (λ (x : List ℕ). t ++ x) (drop_of_length-le table {i = 1024} (omega (arith, h.slots.len))) ∙ append-nil t in
-        rw (all, back) (subst (λ (x : Planning). Matches ws (with_root (read_cache ws).domain q v) (i + 1) x.plan x.table) (sym plan) matches)
-
-  pub matches-all : i ≤ length vs → length vs ≤ i → Plans ws vs p
-  matches-all a b =
-      let m : Matches ws (planted_in ws vs) i p table = rw (take_all i vs b) at h in
-      record { search = m.search; few = omega (arith, m.short, ok.few); count = omega (arith, m.count, ok.few); starts = m.starts; trees = m.trees }
+        e ∙ ap (planned table) (h.slots.slot v small) in
+        rw all (subst (λ (x : Planning). Matches ws (with_root (read_cache ws).domain q v) (i + 1) x.plan x.table) (sym plan) matches)

@@ -1,9 +1,10 @@
 -- The slot of each start vertex, in a table: with one tree more, and for all trees of a cache.
 -- Assumes nothing.
 use mathlib.Core.Path.{◌≡◌, refl, sym, ap, ◌∙◌}
+use Rattle.std.specs.declared.option.Option.{Option}
+use Rattle.std.specs.Prelude.{None, Some}
 use mathlib.Core.Logic.{◌≢◌}
 use mathlib.Core.Bool.{Bool, true, false}
-use mathlib.Core.Option.{Option, none, some}
 use mathlib.Core.List.{List, [], ◌∷◌, ◌++◌}
 use Prim.Native.Nat.{ℕ, suc, ◌+◌, ◌<◌, ◌≤◌}
 use native.Mathlib.Decide.{ℕ_discrete}
@@ -16,11 +17,10 @@ use Rattle.model.specs.Tree.{Tree}
 use Rattle.model.specs.Sound.{SoundTrees, no_tree, tree}
 use Rattle.model.specs.Search.{seek}
 use Rattle.model.proofs.Keeps.{seek_if, seek-at, seek-new}
-use Rattle.layout.specs.Layout.{start_at, edges_in, start_in, trees_in, vertices_in}
+use Rattle.layout.specs.Layout.{edges_in, start_in, trees_in, vertices_in}
 use Rattle.layout.specs.Slots.{slot_words}
 use Rattle.layout.specs.Read.{tree_in, read_cache}
 use Rattle.sound.specs.Facts.{SoundWords}
-use Rattle.sound.proofs.InUse.{words-length}
 use Rattle.sound.proofs.Facts.{trees-length, tree-read, sound-accepted, sound-cache}
 use Rattle.new_trees.specs.Plant.{slot_word, SlotTable}
 use Rattle.new_trees.proofs.NewTrees.{take_next}
@@ -35,7 +35,7 @@ seek-other (u ∷ ts) t v k ne = go (seek-other ts t v (suc k) ne) (eqb u.start 
     go ih true = refl
     go ih false = ih
 
-pub table_more : {ts : List Tree} {table : List ℕ} {v w : ℕ} → SlotTable ts table → (t : Tree) → t.start ≡ v → v < 1024 → seek ts v 0 ≡ none → w ≡ suc (length ts)
+pub table_more : {ts : List Tree} {table : List ℕ} {v w : ℕ} → SlotTable ts table → (t : Tree) → t.start ≡ v → v < 1024 → seek ts v 0 ≡ None → w ≡ suc (length ts)
     → SlotTable (ts ++ (t ∷ [])) (set table v w)
 table_more {ts} {table} {v} {w} h t s b e q = record {
   len = length-set table v w ∙ h.len;
@@ -65,12 +65,12 @@ module _ {ws : List ℕ} {i : ℕ} (ok : SoundWords ws) (b : i < trees_in ws) wh
   sound = (sound-cache ws ok).trees
 
   -- no tree before it starts there
-  first : seek (take i ts) v 0 ≡ none
+  first : seek (take i ts) v 0 ≡ None
   first = go (seek (take i ts) v 0) refl
     where
-      go : (o : Option ℕ) → seek (take i ts) v 0 ≡ o → o ≡ none
-      go none e = refl
-      go (some j) e =
+      go : (o : Option ℕ) → seek (take i ts) v 0 ≡ o → o ≡ None
+      go None e = refl
+      go (Some j) e =
           let r = seek-at (take i ts) v j e in
           let n = trees-length ws in
           let k : j < i = omega (arith, r.0, length-take i ts) in
@@ -79,9 +79,6 @@ module _ {ws : List ℕ} {i : ℕ} (ok : SoundWords ws) (b : i < trees_in ws) wh
 
   -- t: the words of slot i
   module _ {t : List ℕ} (et : t ≡ slot_words (vertices_in ws) (edges_in ws) i ws) where
-    pub start-within : start_at < length t
-    start-within = omega (arith, words-length (record { sound = ok; slot = b }) et)
-
     pub start-read : {s : ℕ} → s ≡ start_in t → s ≡ (tree (read_cache ws).trees i).start
     unfolding tree_in
     start-read e = e ∙ ap start_in et ∙ sym (ap (λ (t : Tree). t.start) (tree-read ws b))

@@ -10,18 +10,18 @@ ghost use Rattle.layout.specs.Read.{read_cache};
 ghost use Rattle.new_trees.specs.Plant.{CanPlan, Plans, SlotTable, CanFindTrees, PlansRoot, CanPlanRoot, CanPlant, Plants, CanPlantAll, PlantsAll};
 ghost use Rattle.layout.specs.Planted.{root_words};
 
+use arrayvec::ArrayVec;
+use layout::root_cost;
 use layout::slots::{Slot, slot_of, slot_words};
-use layout::{root_cost, wide};
 use model::Search;
 use model::limits::{MAX_ENTRIES, MAX_VERTICES};
 use tree::Node;
 
 // The entries of a search, and the start vertices of the trees that are not there yet.
-#[derive(Clone, Copy)]
+#[derive(Drop)]
 pub struct TreePlan {
     pub search: Search,
-    pub starts: [u32; MAX_ENTRIES],
-    pub count: usize,
+    pub starts: ArrayVec<u32, MAX_ENTRIES>,
 }
 
 // An entry for each root, and one new tree for each start vertex that has none; nothing is written.
@@ -30,16 +30,13 @@ pub fn plan(words: &[u32], roots: &[u32]) -> TreePlan
     ensures { Plans words.now roots.now result }
 {
     let mut table = [0u32; MAX_VERTICES];
-    find_trees(words, &mut table[0..MAX_VERTICES]);
+    find_trees(words, &mut table);
     let mut plan = TreePlan {
         search: Search::empty(),
-        starts: [0; MAX_ENTRIES],
-        count: 0,
+        starts: ArrayVec::new(),
     };
-    let mut i = 0;
-    while i < roots.len() {
-        plan = plan_root(words, &mut table[0..MAX_VERTICES], plan, roots[i]);
-        i += 1;
+    for root in roots {
+        plan_root(words, &mut table, &mut plan, *root);
     }
     plan
 }
@@ -50,42 +47,29 @@ fn find_trees(words: &[u32], table: &mut [u32])
     ensures { SlotTable (read_cache words.now).trees table.new }
 {
     let used = layout::header(words, layout::TREES);
-    let mut i = 0;
-    while i < used {
-        let start = slot_words(words, i)[layout::START];
-        i += 1;
-        table[wide(start)] = i as u32;
+    for slot in 0..used {
+        let start = slot_words(words, slot)[layout::START];
+        table[start as usize] = slot as u32 + 1;
     }
 }
 
 // A root without an initial cost is skipped.
-fn plan_root(words: &[u32], table: &mut [u32], plan: TreePlan, vertex: u32) -> TreePlan
-    requires { CanPlanRoot words.now table.old plan vertex }
-    ensures { PlansRoot words.now table.old plan vertex result table.new }
+fn plan_root(words: &[u32], table: &mut [u32], plan: &mut TreePlan, vertex: u32)
+    requires { CanPlanRoot words.now table.old plan.old vertex }
+    ensures { PlansRoot words.now table.old plan.old vertex plan.new table.new }
 {
-    if root_cost(words, wide(vertex)) == layout::ABSENT {
-        return plan;
+    if root_cost(words, vertex as usize) == layout::ABSENT {
+        return;
     }
-    let search = plan.search;
-    let slot = table[wide(vertex)];
+    let slot = table[vertex as usize];
     if slot != 0 {
-        let starts = plan.starts;
-        return TreePlan {
-            search: search.with_entry(slot - 1),
-            starts,
-            count: plan.count,
-        };
+        plan.search = plan.search.with_entry(slot - 1);
+        return;
     }
-    let mut starts = plan.starts;
-    let count = plan.count;
-    let next = (layout::header(words, layout::TREES) + count) as u32;
-    starts[count] = vertex;
-    table[wide(vertex)] = next + 1;
-    TreePlan {
-        search: search.with_entry(next),
-        starts,
-        count: count + 1,
-    }
+    let next = (layout::header(words, layout::TREES) + plan.starts.len()) as u32;
+    plan.search = plan.search.with_entry(next);
+    plan.starts.push(vertex);
+    table[vertex as usize] = next + 1;
 }
 
 // A new tree for each start vertex, in the next slots.
@@ -93,10 +77,8 @@ pub fn plant_all(words: &mut [u32], starts: &[u32])
     requires { CanPlantAll words.old starts.now }
     ensures { PlantsAll words.old starts.now words.new }
 {
-    let mut i = 0;
-    while i < starts.len() {
-        plant(words, starts[i]);
-        i += 1;
+    for start in starts {
+        plant(words, *start);
     }
 }
 
@@ -106,7 +88,7 @@ fn plant(words: &mut [u32], vertex: u32)
     ensures { Plants words.old vertex words.new }
 {
     let used = layout::header(words, layout::TREES);
-    let cost = root_cost(words, wide(vertex));
+    let cost = root_cost(words, vertex as usize);
     let Slot { at, end, .. } = slot_of(words, used);
     put_root(&mut words[at..end], vertex, cost);
     words[layout::TREES] = used as u32 + 1;

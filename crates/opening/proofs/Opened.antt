@@ -1,16 +1,17 @@
 -- A search opened: refused where the new trees outnumber the unused slots, else with its new trees planted.
 -- Assumes nothing.
 use mathlib.Core.Path.{◌≡◌, refl, sym, ap, ◌∙◌, subst}
+use Rattle.std.specs.declared.result.Result.{Result}
+use Rattle.model.specs.declared.Refusal.{Refusal}
+use Rattle.std.specs.Prelude.{Ok, Err}
 use mathlib.Core.Bool.{Bool, true}
 use mathlib.Core.List.{List}
 use Prim.Native.Nat.{ℕ, ◌-◌, ◌<◌, ◌≤◌}
 use native.Mathlib.Omega.{arith}
 use borrow.Author.Tests.{lt-ltb, le-ltb}
-use lib.ListN.{length, take}
-use Rattle.model.specs.declared.InitializeAnswer.TheVariants.{Initialized}
+use lib.ListN.{length}
 use Rattle.model.specs.declared.Refusal.TheVariants.{TreesFull}
 use Rattle.model.specs.declared.Search.{Search}
-use Rattle.model.specs.declared.SearchOpened.{SearchOpened}
 use Rattle.model.specs.Lists.{all_below}
 use Rattle.layout.specs.Read.{read_cache}
 use Rattle.tree.proofs.Parts.{below_in}
@@ -19,7 +20,7 @@ use Rattle.new_trees.specs.declared.TreePlan.{TreePlan}
 use Rattle.new_trees.specs.Plant.{with_new, CanPlantAll, PlantsAll, Plans}
 use Rattle.layout.specs.Planted.{planted_in, new_starts}
 use Rattle.new_trees.proofs.Plans.{planned-length, planned-starts, can-plant-all}
-use Rattle.opening.specs.Initialize.{not_opened_by, CanOpenSearch, OpensIf, OpensSearch, CanTakeGoals, with_goals}
+use Rattle.opening.specs.Initialize.{CanOpenSearch, OpensIf, OpensSearch, CanTakeGoals, with_goals}
 use Rattle.opening.proofs.Goals.{goals-taken}
 use Rattle.layout.specs.Layout.{slots_in, trees_in, vertices_in}
 
@@ -31,40 +32,32 @@ can-open {ws} {vs} ok {m} count few goals below = record {
   goals = goals;
 }
 
--- r: what was planned; t of the slots, u in use
-module _ {ws vs gs : List ℕ} (ok : CanOpenSearch ws vs gs) {r : TreePlan} (p : Plans ws vs r) {t u : ℕ} (slots : t ≡ slots_in ws) (used : u ≡ trees_in ws) where
-  new-count : length (planted_in ws vs).trees - trees_in ws ≡ r.count
-  new-count = omega (arith, planned-length ok.plan p)
+-- r: what was planned, n new trees; t of the slots, u in use
+module _ {ws vs gs : List ℕ} (ok : CanOpenSearch ws vs gs) {r : TreePlan} (p : Plans ws vs r) {t u n : ℕ} (slots : t ≡ slots_in ws) (used : u ≡ trees_in ws)
+    (count : n ≡ length r.starts.items) where
+  new-count : length (planted_in ws vs).trees - trees_in ws ≡ n
+  new-count = omega (arith, planned-length ok.plan p, count)
 
-  -- the starts of the new trees, as they are lent
-  lent-starts : take (r.count - 0) r.starts ≡ take r.count r.starts
-  lent-starts =
-      let same : r.count - 0 ≡ r.count = omega arith in
-      ap (λ (n : ℕ). take n r.starts) same
-
-  pub no-slots : t - u < r.count → {o : SearchOpened} → o ≡ not_opened_by TreesFull → OpensSearch ws vs gs o ws
+  pub no-slots : t - u < n → {o : Result Search Refusal} → o ≡ Err TreesFull → OpensSearch ws vs gs o ws
   no-slots h {o} e =
       let full : slots_in ws - trees_in ws < length (planted_in ws vs).trees - trees_in ws = omega (arith, h, slots, used, new-count) in
       subst (λ (b : Bool). OpensIf b ws vs gs o ws) (sym (lt-ltb _ _ full)) (e, refl)
 
-  module _ (h : r.count ≤ t - u) where
-    pub can-plant : CanPlantAll ws (take (r.count - 0) r.starts)
-    can-plant = subst (CanPlantAll ws) (sym lent-starts) (can-plant-all ok.plan p (omega (arith, h, slots, used, ok.plan.sound.used)))
+  -- us: the starts as they are lent
+  module _ (h : n ≤ t - u) {us : List ℕ} (lent : us ≡ r.starts.items) where
+    pub can-plant : CanPlantAll ws us
+    can-plant = rw lent (can-plant-all ok.plan p (omega (arith, h, slots, used, count, ok.plan.sound.used)))
 
     pub takes-goals : CanTakeGoals r.search gs
     takes-goals = record { room = omega (arith, ok.goals, ap (λ (s : Search). s.goal_count) p.search) }
 
-    pub is-opened : (left : List ℕ) → PlantsAll ws (take (r.count - 0) r.starts) left → (s : Search) → s ≡ with_goals r.search gs
-        → OpensSearch ws vs gs (record { answer = Initialized; search = s }) left
+    pub is-opened : (left : List ℕ) → PlantsAll ws us left → (s : Search) → s ≡ with_goals r.search gs → OpensSearch ws vs gs (Ok s) left
     is-opened left q s e =
         let room : length (planted_in ws vs).trees - trees_in ws ≤ slots_in ws - trees_in ws = omega (arith, h, slots, used, new-count) in
-        let new : take r.count r.starts ≡ new_starts ws vs = planned-starts ok.plan p in
-        subst (λ (b : Bool). OpensIf b ws vs gs (record { answer = Initialized; search = s }) left) (sym (le-ltb _ _ room))
+        let new : r.starts.items ≡ new_starts ws vs = planned-starts ok.plan p in
+        subst (λ (b : Bool). OpensIf b ws vs gs (Ok s) left) (sym (le-ltb _ _ room))
         (record {
-          result = ap opened (e ∙ ap (λ (x : Search). with_goals x gs) p.search ∙ goals-taken (planted_in ws vs).entries gs ok.goals);
+          result = ap Ok (e ∙ ap (λ (x : Search). with_goals x gs) p.search ∙ goals-taken (planted_in ws vs).entries gs ok.goals);
           trees = p.trees ∙ ap (with_new (read_cache ws).domain (read_cache ws).trees) new;
-          plants = subst (λ (l : List ℕ). PlantsAll ws l left) (lent-starts ∙ new) q;
+          plants = subst (λ (l : List ℕ). PlantsAll ws l left) (lent ∙ new) q;
         })
-      where
-        opened : Search → SearchOpened
-        opened x = record { answer = Initialized; search = x }

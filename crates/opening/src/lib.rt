@@ -5,29 +5,29 @@
 
 ghost use Rattle.std.specs.Prelude.{◌≡◌};
 ghost use Rattle.sound.specs.Facts.{SoundWords};
-ghost use Rattle.opening.specs.Initialize.{Initializes, not_opened_by, CanOpenSearch, OpensSearch, CanTakeGoals, with_goals};
+ghost use Rattle.opening.specs.Initialize.{Initializes, CanOpenSearch, OpensSearch, CanTakeGoals, with_goals};
 
 use layout::lists::are_vertices;
 use model::limits::MAX_ENTRIES;
-use model::{InitializeAnswer, Refusal, Search, SearchOpened};
+use model::{Refusal, Search};
 
 // Opens a search from the starts to the goals. On a backward cache its trees root at the goals and the starts are looked for.
-pub fn initialize(words: &mut [u32], starts: &[u32], goals: &[u32]) -> SearchOpened
+pub fn initialize(words: &mut [u32], starts: &[u32], goals: &[u32]) -> Result<Search, Refusal>
     requires { SoundWords words.old }
     ensures { Initializes words.old starts.now goals.now result words.new }
 {
     if MAX_ENTRIES < starts.len() {
-        return not_opened(Refusal::OverLimit);
+        return Err(Refusal::OverLimit);
     }
     if MAX_ENTRIES < goals.len() {
-        return not_opened(Refusal::OverLimit);
+        return Err(Refusal::OverLimit);
     }
     let vertices = layout::header(words, layout::VERTICES);
     if !are_vertices(starts, vertices) {
-        return not_opened(Refusal::NoSuchVertex);
+        return Err(Refusal::NoSuchVertex);
     }
     if !are_vertices(goals, vertices) {
-        return not_opened(Refusal::NoSuchVertex);
+        return Err(Refusal::NoSuchVertex);
     }
     if words[layout::DIRECTION] == 0 {
         return open_search(words, starts, goals);
@@ -35,44 +35,26 @@ pub fn initialize(words: &mut [u32], starts: &[u32], goals: &[u32]) -> SearchOpe
     open_search(words, goals, starts)
 }
 
-pub fn not_opened(refusal: Refusal) -> SearchOpened
-    ensures { result ≡ not_opened_by refusal }
-{
-    SearchOpened {
-        answer: InitializeAnswer::Refused { refusal, line: 0 },
-        search: Search::empty(),
-    }
-}
-
 // The lists were judged: the search from the roots, if there are slots for its new trees.
-fn open_search(words: &mut [u32], roots: &[u32], goals: &[u32]) -> SearchOpened
+fn open_search(words: &mut [u32], roots: &[u32], goals: &[u32]) -> Result<Search, Refusal>
     requires { CanOpenSearch words.old roots.now goals.now }
     ensures { OpensSearch words.old roots.now goals.now result words.new }
 {
     let plan = new_trees::plan(words, roots);
-    let count = plan.count;
     let unused = layout::header(words, layout::SLOTS) - layout::header(words, layout::TREES);
-    if unused < count {
-        return not_opened(Refusal::TreesFull);
+    if unused < plan.starts.len() {
+        return Err(Refusal::TreesFull);
     }
-    let starts = plan.starts;
-    new_trees::plant_all(words, &starts[0..count]);
-    let search = plan.search;
-    SearchOpened {
-        answer: InitializeAnswer::Initialized,
-        search: with_goals(search, goals),
-    }
+    new_trees::plant_all(words, &plan.starts);
+    Ok(with_goals(plan.search, goals))
 }
 
-fn with_goals(search: Search, goals: &[u32]) -> Search
+fn with_goals(mut search: Search, goals: &[u32]) -> Search
     requires { CanTakeGoals search goals.now }
     ensures { result ≡ with_goals search goals.now }
 {
-    let mut next = search;
-    let mut i = 0;
-    while i < goals.len() {
-        next = next.with_goal(goals[i]);
-        i += 1;
+    for goal in goals {
+        search = search.with_goal(*goal);
     }
-    next
+    search
 }

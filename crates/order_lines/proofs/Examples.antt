@@ -4,46 +4,47 @@ use mathlib.Core.Path.{◌≡◌, refl}
 use mathlib.Core.List.{List, [], ◌∷◌, ◌++◌}
 use Prim.Native.Nat.{ℕ, zero, suc}
 use lib.ListN.{replicate}
+use Rattle.std.specs.Prelude.{Some, None}
 use Rattle.text.specs.Bytes.{bytes}
 use Rattle.order_lines.specs.declared.answers.Answer.TheVariants as answer
 use Rattle.order_lines.specs.declared.orders.Form.TheVariants.{Forward, Backward}
 use Rattle.order_lines.specs.Answers.{answer_line, refused_line}
-use Rattle.order_lines.specs.Orders.{numbers_in, no_order, order_of}
+use Rattle.order_lines.specs.Orders.{numbers_in, order_of}
 
-forward : order_of (bytes "F,0 1,2") ≡ record { form = Forward; starts = numbers_in (0 ∷ 1 ∷ []); goals = numbers_in (2 ∷ []) }
+forward : order_of (bytes "F,0 1,2") ≡ Some (record { form = Forward; starts = numbers_in (0 ∷ 1 ∷ []); goals = numbers_in (2 ∷ []) })
 unfolding order_of
 forward = refl
 
-empty-lists : order_of (bytes "B,,") ≡ record { form = Backward; starts = numbers_in []; goals = numbers_in [] }
+empty-lists : order_of (bytes "B,,") ≡ Some (record { form = Backward; starts = numbers_in []; goals = numbers_in [] })
 unfolding order_of
 empty-lists = refl
 
-two-spaces : order_of (bytes "F,0  1,2") ≡ no_order
+two-spaces : order_of (bytes "F,0  1,2") ≡ None
 unfolding order_of
 two-spaces = refl
 
-leading-zero : order_of (bytes "F,01,2") ≡ no_order
+leading-zero : order_of (bytes "F,01,2") ≡ None
 unfolding order_of
 leading-zero = refl
 
-last-space : order_of (bytes "F,1 ,2") ≡ no_order
+last-space : order_of (bytes "F,1 ,2") ≡ None
 unfolding order_of
 last-space = refl
 
-two_fields : order_of (bytes "F,1") ≡ no_order
+two_fields : order_of (bytes "F,1") ≡ None
 unfolding order_of
 two_fields = refl
 
-four-fields : order_of (bytes "F,1,2,3") ≡ no_order
+four-fields : order_of (bytes "F,1,2,3") ≡ None
 unfolding order_of
 four-fields = refl
 
-two-letters : order_of (bytes "FF,1,2") ≡ no_order
+two-letters : order_of (bytes "FF,1,2") ≡ None
 unfolding order_of
 two-letters = refl
 
 -- handed on as 4294967295
-past-32-bits : order_of (bytes "F,4294967296,") ≡ record { form = Forward; starts = numbers_in (4294967295 ∷ []); goals = numbers_in [] }
+past-32-bits : order_of (bytes "F,4294967296,") ≡ Some (record { form = Forward; starts = numbers_in (4294967295 ∷ []); goals = numbers_in [] })
 unfolding order_of
 past-32-bits = refl
 
@@ -56,11 +57,11 @@ ones (suc n) l = bytes "1 " ++ ones n l
 abbrev many : List ℕ → List ℕ
 many end = bytes "F," ++ ones 65 end
 
-list-of-66 : order_of (many (bytes "2,")) ≡ record { form = Forward; starts = numbers_in (replicate 65 1); goals = numbers_in [] }
+list-of-66 : order_of (many (bytes "2,")) ≡ Some (record { form = Forward; starts = numbers_in (replicate 65 1); goals = numbers_in [] })
 unfolding order_of ones
 list-of-66 = refl
 
-last-of-66 : order_of (many (bytes "02,")) ≡ no_order
+last-of-66 : order_of (many (bytes "02,")) ≡ None
 unfolding order_of ones
 last-of-66 = refl
 

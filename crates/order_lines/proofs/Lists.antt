@@ -1,129 +1,106 @@
 -- A list read number by number.
 -- Assumes nothing.
 use mathlib.Core.Path.{◌≡◌, refl, sym, ap, ◌∙◌}
-use mathlib.Core.Bool.{Bool, true}
 use mathlib.Core.List.{List, [], ◌∷◌, ◌++◌, map, map-append, append-nil, append_assoc}
-use mathlib.Core.Option.{Option, none, some}
-use Prim.Native.Nat.{ℕ, ◌+◌, ◌-◌, ◌<◌, ◌≤◌, min}
-use native.Mathlib.Decide.{dec_le}
+use Prim.Native.Nat.{ℕ, zero, suc, ◌<◌, min}
 use native.Mathlib.Omega.{arith}
-use borrow.Author.Tests.{lt-ltb, le-ltb}
-use lib.ListN.{length, take, drop, replicate, set, length-append}
-use lib.Seq.{length-take-le, take_all, take-append-le}
-use Rattle.model.proofs.Filled.{set-filled}
-use Rattle.text.specs.declared.bytes.Number.{Number}
-use Rattle.text.specs.declared.bytes.Number.TheVariants as field
-use Rattle.text.specs.Bytes.{place, parted, number_of}
-use Rattle.text.proofs.Parts.{rest}
-use Rattle.text.proofs.PieceCuts.{pieces_from, pieces-start, pieces-past, piece_inside, pieces-next}
-use Rattle.order_lines.specs.declared.orders.Numbers.{Numbers}
-use Rattle.order_lines.specs.Orders.{cons_if, numbers_of, numbers_in, no_numbers, list_by, list_of, with_if, with_number}
+use lib.ListN.{length, take, length-append}
+use lib.Seq.{take_all, take-append-le}
+use Rattle.std.specs.Prelude.{Some, None}
+use Rattle.std.specs.declared.option.Option.{Option}
+use Rattle.arrayvec.specs.ArrayVec.{ArrayVec}
+use Rattle.text.specs.Bytes.{parted, number_of}
+use Rattle.order_lines.specs.Orders.{cons_if, numbers_of, numbers_in, list_by, list_of}
 
 -- ---- one number more
 
-abbrev kept : List ℕ → Numbers
-kept m = record { legal = true; numbers = m ++ replicate (65 - length m) 0; count = length m }
+abbrev with_number : List ℕ → ℕ → List ℕ
+with_number xs n = take 65 (xs ++ (min 4294967295 n ∷ []))
 
-kept_more : (m : List ℕ) (n : ℕ) → length m < 65 → with_if true (kept m) n ≡ kept (m ++ (min 4294967295 n ∷ []))
-kept_more m n h = λ i. record { legal = true; numbers = words i; count = more i }
-  where
-    more : length m + 1 ≡ length (m ++ (min 4294967295 n ∷ []))
-    more = sym (length-append m (min 4294967295 n ∷ []))
+take-before : (k : ℕ) (xs ys : List ℕ) → take k (take k xs ++ ys) ≡ take k (xs ++ ys)
+take-before zero xs ys = refl
+take-before (suc k) [] ys = refl
+take-before (suc k) (x ∷ xs) ys = ap (λ (l : List ℕ). x ∷ l) (take-before k xs ys)
 
-    words : set (m ++ replicate (65 - length m) 0) (length m) (min 4294967295 n)
-        ≡ (m ++ (min 4294967295 n ∷ [])) ++ replicate (65 - length (m ++ (min 4294967295 n ∷ []))) 0
-    words = set-filled 65 m (min 4294967295 n) 0 (omega arith)
-
-with-kept : (m : List ℕ) (n : ℕ) → with_number (kept (take 65 m)) n ≡ kept (take 65 (m ++ (min 4294967295 n ∷ [])))
-with-kept m n = elim (dec_le 65 (length m)) [
-  | yes h ↦ full h
-  | no h ↦ open-yet (omega arith)
-]
-  where
-    full : 65 ≤ length m → with_number (kept (take 65 m)) n ≡ kept (take 65 (m ++ (min 4294967295 n ∷ [])))
-    full h =
-        rw (take-append-le 65 m (min 4294967295 n ∷ []) h)
-        (ap (λ (b : Bool). with_if b (kept (take 65 m)) n) (le-ltb (length (take 65 m)) 65 (omega (arith, length-take-le 65 m h))))
-
-    open-yet : length m < 65 → with_number (kept (take 65 m)) n ≡ kept (take 65 (m ++ (min 4294967295 n ∷ [])))
-    open-yet h =
-        rw (take_all 65 m (omega arith), take_all 65 (m ++ (min 4294967295 n ∷ [])) (omega (arith, length-append m (min 4294967295 n ∷ []))))
-        (ap (λ (b : Bool). with_if b (kept m) n) (lt-ltb (length m) 65 h) ∙ kept_more m n h)
-
-with_in : (l : List ℕ) (n : ℕ) → with_number (numbers_in l) n ≡ numbers_in (l ++ (n ∷ []))
-with_in l n = with-kept (map (min 4294967295) l) n ∙ ap (λ (m : List ℕ). kept (take 65 m)) (sym (map-append (min 4294967295) l (n ∷ [])))
+with_in : (l : List ℕ) (n : ℕ) → with_number (numbers_in l).items n ≡ (numbers_in (l ++ (n ∷ []))).items
+with_in l n =
+    take-before 65 (map (min 4294967295) l) (min 4294967295 n ∷ [])
+    ∙ ap (take 65) (sym (map-append (min 4294967295) l (n ∷ [])))
 
 -- ---- the pieces that are left
 
-abbrev pub read_by : Number → (ℕ → Numbers) → Numbers
-read_by field.Illegal f = no_numbers
-read_by (field.Of n) f = f n
+abbrev pub read_by : Option ℕ → (ℕ → Option (ArrayVec ℕ)) → Option (ArrayVec ℕ)
+read_by None f = None
+read_by (Some n) f = f n
 
--- a list read on from the numbers x
-unfoldable pub list_from : Numbers → List (List ℕ) → Numbers
+-- a list read on from the numbers xs
+unfoldable pub list_from : List ℕ → List (List ℕ) → Option (ArrayVec ℕ)
 unfolding number_of
-list_from x [] = x
-list_from x (p ∷ ps) = read_by (number_of p) (λ n. list_from (with_number x n) ps)
+list_from xs [] = Some (record { items = xs })
+list_from xs (p ∷ ps) = read_by (number_of p) (λ n. list_from (with_number xs n) ps)
 
 abbrev behind : List ℕ → Option (List ℕ) → Option (List ℕ)
-behind l none = none
-behind l (some r) = some (l ++ r)
+behind l None = None
+behind l (Some r) = Some (l ++ r)
 
-from_in_lem : (l : List ℕ) (ps : List (List ℕ)) → list_from (numbers_in l) ps ≡ list_by (behind l (numbers_of ps))
+from_in_lem : (l : List ℕ) (ps : List (List ℕ)) → list_from (numbers_in l).items ps ≡ list_by (behind l (numbers_of ps))
 unfolding list_from numbers_of
-from_in_lem l [] = ap numbers_in (sym (append-nil l))
+from_in_lem l [] = ap (λ (m : List ℕ). Some (numbers_in m)) (sym (append-nil l))
 from_in_lem l (p ∷ ps) = go (λ n. from_in_lem (l ++ (n ∷ [])) ps) (number_of p)
   where
-    more : (n : ℕ) (o : Option (List ℕ)) → behind (l ++ (n ∷ [])) o ≡ behind l (cons_if (field.Of n) o)
-    more n none = refl
-    more n (some r) = ap some (append_assoc l (n ∷ []) r)
+    more : (n : ℕ) (o : Option (List ℕ)) → behind (l ++ (n ∷ [])) o ≡ behind l (cons_if (Some n) o)
+    more n None = refl
+    more n (Some r) = ap Some (append_assoc l (n ∷ []) r)
 
-    go : ((n : ℕ) → list_from (numbers_in (l ++ (n ∷ []))) ps ≡ list_by (behind (l ++ (n ∷ [])) (numbers_of ps)))
-        → (v : Number) → read_by v (λ n. list_from (with_number (numbers_in l) n) ps) ≡ list_by (behind l (cons_if v (numbers_of ps)))
-    go r field.Illegal = refl
-    go r (field.Of n) = ap (λ (x : Numbers). list_from x ps) (with_in l n) ∙ r n ∙ ap list_by (more n (numbers_of ps))
+    go : ((n : ℕ) → list_from (numbers_in (l ++ (n ∷ []))).items ps ≡ list_by (behind (l ++ (n ∷ [])) (numbers_of ps)))
+        → (v : Option ℕ) → read_by v (λ n. list_from (with_number (numbers_in l).items n) ps) ≡ list_by (behind l (cons_if v (numbers_of ps)))
+    go r None = refl
+    go r (Some n) = ap (λ (xs : List ℕ). list_from xs ps) (with_in l n) ∙ r n ∙ ap list_by (more n (numbers_of ps))
 
 -- ---- the text of a list, parted by b
 
-pub list-none : (b : ℕ) (l : List ℕ) → length l ≡ 0 → list_of b l ≡ numbers_in []
+pub list-none : (b : ℕ) (l : List ℕ) {x : ArrayVec ℕ} → length l ≡ 0 → x.items ≡ [] → Some x ≡ list_of b l
 unfolding list_of
-list-none b [] e = refl
-list-none b (x ∷ l) e = absurd (omega arith)
+list-none b [] e none = λ i. Some (record { items = none i })
+list-none b (x ∷ l) e none = absurd (omega arith)
 
-list-start : (b : ℕ) (l : List ℕ) → (length l ≡ 0 → ⊥) → list_of b l ≡ list_from (numbers_in []) (parted b l)
+list-start : (b : ℕ) (l : List ℕ) → (length l ≡ 0 → ⊥) → list_of b l ≡ list_from [] (parted b l)
 unfolding list_of
 list-start b [] h = absurd (h refl)
 list-start b (x ∷ l) h = sym (from_in_lem [] (parted b (x ∷ l)) ∙ ap list_by (go (numbers_of (parted b (x ∷ l)))))
   where
     go : (o : Option (List ℕ)) → behind [] o ≡ o
-    go none = refl
-    go (some r) = refl
+    go None = refl
+    go (Some r) = refl
 
--- x: the numbers before place `at`
-pub record Reading (b : ℕ) (l : List ℕ) (x : Numbers) (at : ℕ) : Type 0 where
-  pub inside : at ≤ length l + 1
-  pub left : list_of b l ≡ list_from x (pieces_from b l at)
+-- xs: the numbers read; ps: the pieces behind them
+pub record Reading (b : ℕ) (l xs : List ℕ) (ps : List (List ℕ)) : Type 0 where
+  pub left : list_of b l ≡ list_from xs ps
 
-pub reading-start : (b : ℕ) (l : List ℕ) → (length l ≡ 0 → ⊥) → Reading b l (numbers_in []) 0
-reading-start b l h = record { inside = omega arith; left = list-start b l h ∙ rw (pieces-start b l) }
+pub reading-start : {b : ℕ} {l xs : List ℕ} {ps : List (List ℕ)} → (length l ≡ 0 → ⊥) → xs ≡ [] → ps ≡ parted b l → Reading b l xs ps
+reading-start {b} {l} h none e = rw none (record { left = list-start b l h ∙ rw e })
 
--- k: where the first b from `at` on stands
-module _ {b : ℕ} {l : List ℕ} {x : Numbers} {at k : ℕ} (r : Reading b l x at) (h : at ≤ length l) (found : k ≡ place b (rest l at)) where
-  pub reading-within : at + k ≤ length l
-  reading-within = piece_inside b l at found h
+-- p: the next piece
+module _ {b : ℕ} {l xs : List ℕ} {p : List ℕ} {ps qs : List (List ℕ)} (r : Reading b l xs ps) (e : ps ≡ p ∷ qs) where
+  reading-by : list_of b l ≡ read_by (number_of p) (λ n. list_from (with_number xs n) qs)
+  unfolding list_from
+  reading-by = r.left ∙ rw e
 
-  -- v: the number that ends there
-  module _ {v : Number} (read : v ≡ number_of (take (k - 0) (drop 0 (rest l at)))) where
-    reading-by : {w : Number} → v ≡ w → list_of b l ≡ read_by w (λ n. list_from (with_number x n) (pieces_from b l (at + k + 1)))
-    unfolding list_from
-    reading-by e = r.left ∙ rw (pieces-next b l at found h, ← read, e)
+  pub reading-none : number_of p ≡ None → None ≡ list_of b l
+  reading-none q = sym (reading-by ∙ rw q)
 
-    pub reading-illegal : v ≡ field.Illegal → list_of b l ≡ no_numbers
-    reading-illegal e = reading-by e
+  module _ {n : ℕ} (q : number_of p ≡ Some n) where
+    reading-more : {ys : List ℕ} → with_number xs n ≡ ys → Reading b l ys qs
+    reading-more same = rw (← same) (record { left = reading-by ∙ rw q })
 
-    pub reading-next : {n : ℕ} → v ≡ field.Of n → Reading b l (with_number x n) (at + k + 1)
-    reading-next e = record { inside = omega (arith, reading-within); left = reading-by e }
+    pub reading-next : {ys : List ℕ} → length xs < 65 → ys ≡ xs ++ (min 4294967295 n ∷ []) → Reading b l ys qs
+    reading-next few same =
+        rw same
+        (reading-more (take_all 65 (xs ++ (min 4294967295 n ∷ [])) (omega (arith, length-append xs (min 4294967295 n ∷ [])))))
 
-pub reading-end : {b : ℕ} {l : List ℕ} {x : Numbers} {at : ℕ} → Reading b l x at → length l < at → x ≡ list_of b l
+    pub reading-full : length xs ≡ 65 → Reading b l xs qs
+    reading-full full = reading-more (take-append-le 65 xs (min 4294967295 n ∷ []) (omega arith) ∙ take_all 65 xs (omega arith))
+
+pub reading-end : {b : ℕ} {l : List ℕ} {x : ArrayVec ℕ} {ps : List (List ℕ)} → Reading b l x.items ps → ps ≡ [] → Some x ≡ list_of b l
 unfolding list_from
-reading-end {b} {l} {x} {at} r h = sym (r.left ∙ rw (pieces-past b l at h))
+reading-end r e = sym (r.left ∙ rw e)

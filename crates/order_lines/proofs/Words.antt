@@ -6,7 +6,7 @@ use Prim.Native.Nat.{ℕ, zero, suc, ◌+◌, ◌*◌, ◌<◌, ◌≤◌}
 use native.Mathlib.Numerals.{add-one}
 use native.Mathlib.Omega.{arith}
 use lib.ListN.{length, get_or, take, length-append}
-use lib.Seq.{length-take-le, take_all}
+use lib.Seq.{length-take-le}
 use Rattle.text.specs.Print.{decimal}
 use Rattle.order_lines.specs.Answers.{refused_by, words_text, answer_line, spaced, answer_fields, path_text}
 use Rattle.order_lines.specs.declared.answers.Answer.{Answer}
@@ -50,9 +50,6 @@ module _ (out : List ℕ) (at : ℕ) (ws : List ℕ) where
   pub words-next : (i : ℕ) {end r : ℕ} {mid left : List ℕ} → at ≤ length out → i < length ws → Puts out at (words_text (take i ws)) end mid
       → Puts mid end (spaced i (get_or ws i 0)) r left → Puts out at (words_text (take (i + 1) ws)) r left
   words-next i h l p q = rw (add-one i, words-add ws i l) (puts_then h p q)
-
-  pub words-end : (i : ℕ) {end : ℕ} {left : List ℕ} → length ws ≤ i → Puts out at (words_text (take i ws)) end left → Puts out at (words_text ws) end left
-  words-end i h p = rw (take_all i ws h) at p
 
 -- ---- the fields of a line
 

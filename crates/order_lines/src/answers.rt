@@ -3,10 +3,10 @@ ghost use Rattle.std.specs.Prelude.{◌+◌, ◌*◌, ◌<◌, ◌≤◌, length
 ghost use Rattle.put_text.specs.Puts.{Puts};
 ghost use Rattle.order_lines.specs.Answers.{CanPutLine, answer_line, refused_by, refused_line, answer_fields, path_text, words_text, spaced};
 
-use layout::wide;
 use put_text::{put_byte, put_bytes, put_field, put_word};
 
-// The answer of an order: its total and path, none, the number of a refusal, or that its search still waits.
+// The answer of an order: its total and path, none, the number of a refusal, or that its search still waits. No `Result` of the search's:
+// a line may bear any number, and a total without its moves.
 #[derive(Clone, Copy)]
 pub enum Answer {
     Solved(u32),
@@ -38,7 +38,7 @@ pub fn put_line(out: &mut [u8], line: Line, path: &[u32]) -> usize
     put_byte(out, e, b'\n')
 }
 
-// Puts the only line of a sheet that is refused.
+// Puts the only line of a sheet that is refused, by its number, of which any may be put.
 pub fn put_refused(out: &mut [u8], number: u32) -> usize
     requires { 19 ≤ length out.old }
     ensures { Puts out.old 0 (refused_line number) result out.new }
@@ -64,7 +64,7 @@ fn put_answer(out: &mut [u8], at: usize, answer: Answer) -> usize
     match answer {
         Answer::Solved(total) => {
             let a = put_bytes(out, at, b"solved,");
-            put_field(out, a, wide(total))
+            put_field(out, a, total as usize)
         }
         Answer::Impossible => put_bytes(out, at, b"none,-,"),
         Answer::Refused(number) => {
@@ -82,9 +82,7 @@ fn put_run(out: &mut [u8], at: usize, answer: Answer, path: &[u32]) -> usize
 {
     match answer {
         Answer::Solved(_) => put_words(out, at, path),
-        Answer::Impossible => put_byte(out, at, b'-'),
-        Answer::Refused(_) => put_byte(out, at, b'-'),
-        Answer::Incomplete => put_byte(out, at, b'-'),
+        _ => put_byte(out, at, b'-'),
     }
 }
 
@@ -94,10 +92,8 @@ fn put_words(out: &mut [u8], at: usize, words: &[u32]) -> usize
     ensures { Puts out.old at (words_text words.now) result out.new }
 {
     let mut end = at;
-    let mut i = 0;
-    while i < words.len() {
-        end = put_spaced(out, end, i, words[i]);
-        i += 1;
+    for (i, word) in words.iter().enumerate() {
+        end = put_spaced(out, end, i, *word);
     }
     end
 }

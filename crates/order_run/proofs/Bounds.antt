@@ -1,6 +1,8 @@
 -- How often a search waits and how many moves a solved one answers, at most.
 -- Assumes nothing.
 use mathlib.Core.Path.{◌≡◌, refl, sym}
+use Rattle.std.specs.declared.option.Option.{Option}
+use Rattle.std.specs.Prelude.{None, Some}
 use mathlib.Core.Bool.{Bool, true, false, not, ◌||◌}
 use mathlib.Core.List.{List, [], ◌∷◌}
 use Prim.Native.Nat.{ℕ, suc, ◌+◌, ◌*◌, ◌<◌, ◌≤◌}
@@ -8,10 +10,7 @@ use native.Mathlib.Nat.{mul-le-mul_left, mul-le-mul_right}
 use native.Mathlib.Omega.{arith}
 use lib.Dec.{eqb}
 use lib.ListN.{length, get_or}
-use Rattle.model.specs.declared.Solution.{Solution}
-use Rattle.model.specs.declared.Solution.TheVariants.{Unsolved, At}
 use Rattle.model.specs.declared.BestSolution.{BestSolution}
-use Rattle.model.specs.declared.BestSolution.TheVariants.{NoBest, Best}
 use Rattle.model.specs.declared.Search.{Search}
 use Rattle.model.specs.Lists.{keep, mem}
 use Rattle.model.specs.Answers.{answered, solved}
@@ -19,7 +18,7 @@ use Rattle.model.specs.Graph.{Graph, Accepted, Direction, forward, backward, abs
 use Rattle.model.specs.Tree.{Tree, node, closed_at}
 use Rattle.model.specs.Path.{moves_of}
 use Rattle.model.specs.Sound.{tree, SoundTrees}
-use Rattle.model.specs.Search.{entry}
+use Rattle.model.specs.Search.{entry, as_best}
 use Rattle.model.specs.Valid.{valid}
 use Rattle.model.specs.Calls.{Cache, first_fault, shown_by, shown_tree_by, status_at, final_status, step_if, step_by, step}
 use Rattle.model.specs.Demands.{distinct, trees_of, wait_limit}
@@ -58,10 +57,10 @@ module _ (c : Cache) (s : Search) (ok : SoundTrees c.domain c.trees) (k m : ℕ)
   abbrev Few : Type 0
   Few = m < vertex_count c.domain.graph
 
-  held-few : (v : valid c.domain c.trees s ≡ true) (i n : ℕ) → s.best_solution ≡ Best i n
-      → (o : Solution) → (entry s i).solution ≡ o → status_at (tree c.trees (entry s i).tree) o ≡ solved k m → Few
-  held-few v i n z Unsolved w e = absurd (let x : ◌≡◌ {A = ℕ} 0 1 = cc in omega arith)
-  held-few v i n z (At h) w e =
+  held-few : (v : valid c.domain c.trees s ≡ true) (i n : ℕ) → s.best_solution ≡ as_best i n
+      → (o : Option ℕ) → (entry s i).solution ≡ o → status_at (tree c.trees (entry s i).tree) o ≡ solved k m → Few
+  held-few v i n z None w e = absurd (let x : ◌≡◌ {A = ℕ} 0 1 = cc in omega arith)
+  held-few v i n z (Some h) w e =
       let a = valid-at c.domain c.trees s v in
       let t : Tree = tree c.trees (entry s i).tree in
       let counted : i < s.tree_count = (a.best i n z).0 in
@@ -70,10 +69,10 @@ module _ (c : Cache) (s : Search) (ok : SoundTrees c.domain c.trees) (k m : ℕ)
       let moves : moves_of t.nodes h ≡ m = cc in
       omega (arith, moves-fit c.domain t sound h (sound.closer _ h closes).0 closes)
 
-  shown-few : valid c.domain c.trees s ≡ true → (b : BestSolution) → s.best_solution ≡ b
+  shown-few : valid c.domain c.trees s ≡ true → (b : Option BestSolution) → s.best_solution ≡ b
       → status_at (shown_tree_by c.trees s b) (shown_by s b) ≡ solved k m → Few
-  shown-few v NoBest z e = absurd (let x : ◌≡◌ {A = ℕ} 0 1 = cc in omega arith)
-  shown-few v (Best i n) z e = held-few v i n z (entry s i).solution refl e
+  shown-few v None z e = absurd (let x : ◌≡◌ {A = ℕ} 0 1 = cc in omega arith)
+  shown-few v (Some b) z e = held-few v b.entry b.node z (entry s b.entry).solution refl e
 
   if-few : valid c.domain c.trees s ≡ true → (x : Bool) → (step_if x c s).reply ≡ answered (solved k m) → Few
   unfolding final_status

@@ -1,10 +1,10 @@
 -- What is printed of an order is right, whatever was called before.
 -- Assumes nothing.
 use mathlib.Core.Path.{◌≡◌, refl, sym, ap, ◌∙◌, subst}
+use Rattle.std.specs.Prelude.{Ok}
 use mathlib.Core.List.{List, [], ◌∷◌, ◌++◌}
 use Prim.Native.Nat.{ℕ, zero, suc, ◌+◌, ◌<◌}
 use native.Mathlib.Omega.{arith}
-use Rattle.model.specs.declared.OpenAnswer.TheVariants.{Opened}
 use Rattle.model.specs.declared.Search.{Search}
 use Rattle.model.specs.Answers.{Reply, answered, refused}
 use Rattle.model.specs.Graph.{Accepted}
@@ -107,7 +107,7 @@ lines-are-right dir g t i ws ss gs out r left out' called ran =
 pub opens-called : OpensCalled
 unfolding after_all
 opens-called ws text d t left h =
-    let o : Opens ws text d t left = (demand-1 ws text d t Opened left h).opened refl in
+    let o : Opens ws text d t left = (demand-1 ws text d t (Ok tt) left h).opened refl in
     let called : Called (direction_of d) o.graph t left = record {
       accepted = o.accepted;
       calls = [];

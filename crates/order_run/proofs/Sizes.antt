@@ -1,17 +1,17 @@
 -- The path that is shown: its words are in the slice, as many as are told.
 -- Assumes nothing.
 use mathlib.Core.Path.{◌≡◌, refl, sym, ap, ◌∙◌, subst}
+use Rattle.std.specs.declared.result.Result.{Result}
+use Rattle.std.specs.Prelude.{Err, Ok}
 use mathlib.Core.Bool.{Bool, true, false}
 use mathlib.Core.List.{List}
-use Prim.Native.Nat.{ℕ, ◌+◌, ◌-◌, ◌*◌, ◌≤◌}
+use Prim.Native.Nat.{ℕ, ◌+◌, ◌*◌, ◌≤◌}
 use native.Mathlib.Omega.{arith}
 use borrow.Author.Tests.{ltb-false}
 use lib.Dec.{ltb}
 use lib.ListN.{length, take, drop}
 use lib.Seq.{take-append_seam}
 use Rattle.model.specs.declared.Refusal.{Refusal}
-use Rattle.model.specs.declared.RetraceAnswer.{RetraceAnswer}
-use Rattle.model.specs.declared.RetraceAnswer.TheVariants.{Moves, Refused}
 use Rattle.model.specs.Answers.{answered, refused, number, retrace_reply}
 use Rattle.model.specs.Graph.{Direction}
 use Rattle.model.specs.Tree.{Node}
@@ -34,7 +34,7 @@ path-taken dir ns n p =
     let ws : List ℕ = words dir ns n in
     subst (λ (k : ℕ). take k (written ws p) ≡ ws) (words_count dir ns n) (take-append_seam ws (drop (length ws) p))
 
-module _ (ws : List ℕ) (slot n : ℕ) (p : List ℕ) (r : RetraceAnswer) (q : List ℕ) (h : RetracesNode ws slot n p r q) where
+module _ (ws : List ℕ) (slot n : ℕ) (p : List ℕ) (r : Result ℕ Refusal) (q : List ℕ) (h : RetracesNode ws slot n p r q) where
   abbrev ns : List Node
   ns = (tree (read_cache ws).trees slot).nodes
 
@@ -42,11 +42,11 @@ module _ (ws : List ℕ) (slot n : ℕ) (p : List ℕ) (r : RetraceAnswer) (q : 
   abbrev short : Bool
   short = ltb (length p) (1 + 2 * moves_of ns n)
 
-  reply : (x : RetraceAnswer) → r ≡ x → retrace_reply x ≡ (retrace_node_if short ws slot n p).reply
+  reply : (x : Result ℕ Refusal) → r ≡ x → retrace_reply x ≡ (retrace_node_if short ws slot n p).reply
   reply x e = ap retrace_reply (sym e) ∙ ap (λ (a : AfterRetrace). a.reply) h
 
-  pub path-fits : (m : ℕ) → r ≡ Moves m → 1 + 2 * m ≤ length p
-  path-fits m e = go short refl (reply (Moves m) e)
+  pub path-fits : (m : ℕ) → r ≡ Ok m → 1 + 2 * m ≤ length p
+  path-fits m e = go short refl (reply (Ok m) e)
     where
       go : (b : Bool) → short ≡ b → answered m ≡ (retrace_node_if b ws slot n p).reply → 1 + 2 * m ≤ length p
       go true z k = absurd (answered-refused m 10 0 k)
@@ -56,25 +56,25 @@ module _ (ws : List ℕ) (slot n : ℕ) (p : List ℕ) (r : RetraceAnswer) (q : 
     line-is : {b : Bool} → short ≡ b → path_line b ws l slot n ≡ path_line (ltb 2047 (1 + 2 * moves_of ns n)) ws l slot n
     line-is z = ap (λ (b : Bool). path_line b ws l slot n) (sym z ∙ ap (λ (k : ℕ). ltb k (1 + 2 * moves_of ns n)) room.words)
 
-    -- the path is lent as the part from its start on
-    pub path-text : (m : ℕ) → r ≡ Moves m → answer_line l (take (1 + 2 * m - 0) q) ≡ path_line (ltb 2047 (1 + 2 * moves_of ns n)) ws l slot n
-    path-text m e = go short refl (reply (Moves m) e) (ap (λ (a : AfterRetrace). a.path) h)
+    -- the path is lent as the slice's first words
+    pub path-text : (m : ℕ) → r ≡ Ok m → answer_line l (take (1 + 2 * m) q) ≡ path_line (ltb 2047 (1 + 2 * moves_of ns n)) ws l slot n
+    path-text m e = go short refl (reply (Ok m) e) (ap (λ (a : AfterRetrace). a.path) h)
       where
         go : (b : Bool) → short ≡ b → answered m ≡ (retrace_node_if b ws slot n p).reply → q ≡ (retrace_node_if b ws slot n p).path
-            → answer_line l (take (1 + 2 * m - 0) q) ≡ path_line (ltb 2047 (1 + 2 * moves_of ns n)) ws l slot n
+            → answer_line l (take (1 + 2 * m) q) ≡ path_line (ltb 2047 (1 + 2 * moves_of ns n)) ws l slot n
         go true z k y = absurd (answered-refused m 10 0 k)
         go false z k y =
-            let count : 1 + 2 * m - 0 ≡ 1 + 2 * moves_of ns n = omega (arith, answered-is m (moves_of ns n) k) in
+            let count : 1 + 2 * m ≡ 1 + 2 * moves_of ns n = omega (arith, answered-is m (moves_of ns n) k) in
             ap (λ (j : ℕ). answer_line l (take j q)) count
             ∙ ap (λ (x : List ℕ). answer_line l (take (1 + 2 * moves_of ns n) x)) y
             ∙ ap (answer_line l) (path-taken (direction_of (direction_in ws)) ns n p)
             ∙ line-is z
 
-    pub short-text : {f : Refusal} {line k : ℕ} → r ≡ Refused f line → k ≡ number f
+    pub short-text : {f : Refusal} {k : ℕ} → r ≡ Err f → k ≡ number f
         → refused_order l.order k ≡ path_line (ltb 2047 (1 + 2 * moves_of ns n)) ws l slot n
-    short-text {f} {line} {k} e same = go short refl (reply (Refused f line) e)
+    short-text {f} {k} e same = go short refl (reply (Err f) e)
       where
-        go : (b : Bool) → short ≡ b → refused (number f) line ≡ (retrace_node_if b ws slot n p).reply
+        go : (b : Bool) → short ≡ b → refused (number f) 0 ≡ (retrace_node_if b ws slot n p).reply
             → refused_order l.order k ≡ path_line (ltb 2047 (1 + 2 * moves_of ns n)) ws l slot n
         go true z y = let ten : number f ≡ 10 = cc in ap (refused_order l.order) (same ∙ ten) ∙ line-is z
-        go false z y = absurd (answered-refused (moves_of ns n) (number f) line (sym y))
+        go false z y = absurd (answered-refused (moves_of ns n) (number f) 0 (sym y))

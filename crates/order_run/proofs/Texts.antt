@@ -1,42 +1,36 @@
 -- The lines that are put: of a search that was run to its end, of an order.
 -- Assumes nothing.
 use mathlib.Core.Path.{◌≡◌, refl, sym, ap, ◌∙◌, subst}
+use Rattle.std.specs.declared.option.Option.{Option}
+use Rattle.std.specs.declared.result.Result.{Result}
+use Rattle.model.specs.declared.Refusal.{Refusal}
+use Rattle.std.specs.Prelude.{Err, Ok, None, Some}
 use mathlib.Core.Bool.{Bool, true, false}
 use mathlib.Core.List.{List}
-use Prim.Native.Nat.{ℕ, ◌+◌, ◌-◌, ◌*◌, ◌<◌, ◌≤◌}
-use native.Mathlib.Nat.{sub-zero}
+use Prim.Native.Nat.{ℕ, ◌+◌, ◌*◌, ◌<◌}
 use native.Mathlib.Omega.{arith}
 use lib.Dec.{ltb}
-use lib.ListN.{length, take, replicate}
-use Rattle.model.specs.declared.InitializeAnswer.{InitializeAnswer}
-use Rattle.model.specs.declared.InitializeAnswer.TheVariants as initializing
+use lib.ListN.{replicate}
 use Rattle.model.specs.declared.Search.{Search}
 use Rattle.model.specs.Answers.{Reply, answered, Status, initialize_reply, step_reply}
 use Rattle.model.specs.Sound.{tree}
 use Rattle.model.specs.Path.{moves_of}
-use Rattle.model.specs.Calls.{Cache, AfterInitialize, initialize, AfterRetrace, retrace}
+use Rattle.model.specs.Calls.{Cache, AfterInitialize, initialize, opened_search, AfterRetrace, retrace}
 use Rattle.model.specs.Solve.{AfterSteps, solve, max_steps}
 use Rattle.layout.specs.Layout.{direction_in}
 use Rattle.layout.specs.Read.{direction_of, read_cache}
 use Rattle.sound.specs.Facts.{SoundWords}
 use Rattle.memory.specs.declared.Shown.{Shown}
-use Rattle.memory.specs.declared.Shown.TheVariants as shown
 use Rattle.unchecked.specs.declared.SearchRun.{SearchRun}
 use Rattle.unchecked.specs.Shown.{Shows, status_of}
 use Rattle.unchecked.specs.Retrace.{retrace_node_if, retrace_shown}
 use Rattle.unchecked.specs.Run.{RunsToEnd, RunsAfter, Runs}
 use Rattle.order_lines.specs.declared.answers.Answer.{Answer}
 use Rattle.order_lines.specs.declared.answers.Line.{Line}
-use Rattle.order_lines.specs.declared.orders.Form.{Form}
-use Rattle.order_lines.specs.declared.orders.Form.TheVariants.{Forward, Backward, Illegal}
-use Rattle.order_lines.specs.declared.orders.Numbers.{Numbers}
-use Rattle.order_lines.specs.declared.orders.Order.{Order}
-use Rattle.order_lines.specs.Orders.{order_of}
 use Rattle.order_lines.specs.Answers.{answer_line}
 use Rattle.put_text.specs.Puts.{Puts}
 use Rattle.order_run.specs.Orders.{answer_of, line_for, shown_text, driven_by, driven_text, ordered_by, Ordered, ordered}
-use Rattle.order_run.specs.Run.{listed, path_line, shown_line, Ran, RanBy, RanLine}
-use Rattle.order_run.proofs.Within.{put-within}
+use Rattle.order_run.specs.Run.{path_line, shown_line, Ran}
 use Rattle.order_run.proofs.Sizes.{path-taken}
 
 pub puts-as : {out t t' left : List ℕ} {r : ℕ} → t ≡ t' → Puts out 0 t r left → Puts out 0 t' r left
@@ -75,10 +69,10 @@ module _ {ws left : List ℕ} {s : Search} {r : SearchRun} (h : RunsToEnd ws s r
           sym (ap (λ (x : AfterRetrace). shown_text i d x.reply x.path) e
           ∙ ap (answer_line l) (path-taken (direction_of (direction_in left)) (tree (read_cache left).trees slot).nodes n (replicate 2047 0)))
 
-      go : (x : Shown) → d.reply ≡ answered (status_of (read_cache left).trees x) → retrace (read_cache left) d.search (replicate 2047 0) ≡ retrace_shown left x (replicate 2047 0)
+      go : (x : Option Shown) → d.reply ≡ answered (status_of (read_cache left).trees x) → retrace (read_cache left) d.search (replicate 2047 0) ≡ retrace_shown left x (replicate 2047 0)
           → shown_line left l x ≡ driven_by (answer_of (answered (status_of (read_cache left).trees x))) i d
-      go shown.Nothing e y = refl
-      go (shown.Node slot n) e y = at-node slot n _ refl y
+      go None e y = refl
+      go (Some x) e y = at-node x.slot x.node _ refl y
 
 -- ---- an order of legal form
 
@@ -86,21 +80,14 @@ pub ordered-is : (i : ℕ) (c : Cache) (ss gs : List ℕ) → let r = initialize
 unfolding ordered
 ordered-is i c ss gs = refl
 
--- the lists are lent as the parts from their starts on
-pub lists-lent : (ss gs : Numbers) {ws left : List ℕ} {r : SearchRun}
-    → Runs ws (take (ss.count - 0) ss.numbers) (take (gs.count - 0) gs.numbers) r left → Runs ws (listed ss) (listed gs) r left
-lists-lent ss gs {ws} {left} {r} h =
-    subst (λ (n : ℕ). Runs ws (listed ss) (take n gs.numbers) r left) (sub-zero gs.count)
-    (subst (λ (n : ℕ). Runs ws (take n ss.numbers) (take (gs.count - 0) gs.numbers) r left) (sub-zero ss.count) h)
-
 module _ {ws ss gs : List ℕ} {r : SearchRun} {left : List ℕ} (h : Runs ws ss gs r left) where
-  abbrev after : AfterInitialize
-  after = record { cache = read_cache h.mid; search = h.opened.search; reply = initialize_reply h.opened.answer }
+  abbrev after : Result Search Refusal → AfterInitialize
+  after x = record { cache = read_cache h.mid; search = opened_search x; reply = initialize_reply x }
 
-  opens_as : (i : ℕ) (x : InitializeAnswer) → h.opened.answer ≡ x → ordered_by (initialize_reply x) after i ≡ ordered i (read_cache ws) ss gs
+  opens_as : (i : ℕ) (x : Result Search Refusal) → h.opened ≡ x → ordered_by (initialize_reply x) (after x) i ≡ ordered i (read_cache ws) ss gs
   opens_as i x e =
-      let called : after ≡ initialize (read_cache ws) ss gs = λ j. record { cache = h.opens.cache j; search = h.opens.search j; reply = h.opens.answer j } in
-      ap (λ (y : InitializeAnswer). ordered_by (initialize_reply y) after i) (sym e)
+      let called : after h.opened ≡ initialize (read_cache ws) ss gs = λ j. record { cache = h.opens.cache j; search = h.opens.search j; reply = h.opens.answer j } in
+      ap (λ (y : Result Search Refusal). ordered_by (initialize_reply y) (after y) i) (sym e)
       ∙ ap (λ (y : AfterInitialize). ordered_by y.reply y i) called
       ∙ ordered-is i (read_cache ws) ss gs
 
@@ -119,48 +106,31 @@ module _ {ws ss gs : List ℕ} {r : SearchRun} {left : List ℕ} (h : Runs ws ss
     }
 
     pub ran-search : Puts out 0 (shown_line left (line i a) r.shown) n out' → Ran ws i ss gs out n left out'
-    ran-search = go h.opened.answer refl h.after
+    ran-search = go h.opened refl h.after
       where
-        go : (x : InitializeAnswer) → h.opened.answer ≡ x → RunsAfter x h.mid h.opened.search r left
+        go : (x : Result Search Refusal) → h.opened ≡ x → RunsAfter x h.mid r left
             → Puts out 0 (shown_line left (line i a) r.shown) n out' → Ran ws i ss gs out n left out'
-        go (initializing.Refused f line) e k =
-            ran (opens_as i (initializing.Refused f line) e)
+        go (Err f) e k =
+            ran (opens_as i (Err f) e)
             (ap (λ (y : SearchRun). shown_line left (record { order = i; answer = answer_of (step_reply y.answer); waits = y.waits; tickets = y.tickets }) y.shown) k.0)
             (ap read_cache k.1) (subst SoundWords (sym k.1) h.opens.sound)
-        go initializing.Initialized e k =
+        go (Ok s) e k =
             let steps = run_is k i in
-            ran (opens_as i initializing.Initialized e) (shown-text k i ∙ ap (driven_text i) steps) (ap (λ (d : AfterSteps). d.cache) steps) k.solves.sound
+            ran (opens_as i (Ok s) e) (shown-text k i ∙ ap (driven_text i) steps) (ap (λ (d : AfterSteps). d.cache) steps) k.solves.sound
 
   -- the counts are small: 640 × 131,137 is a number of 8 digits
   pub counts-fit : (r.waits < 10000000000) × (r.tickets < 10000000000)
-  counts-fit = go h.opened.answer h.after
+  counts-fit = go h.opened h.after
     where
-      go : (x : InitializeAnswer) → RunsAfter x h.mid h.opened.search r left → (r.waits < 10000000000) × (r.tickets < 10000000000)
-      go (initializing.Refused f line) k =
+      go : (x : Result Search Refusal) → RunsAfter x h.mid r left → (r.waits < 10000000000) × (r.tickets < 10000000000)
+      go (Err f) k =
           (omega (arith, ap (λ (y : SearchRun). y.waits) k.0), omega (arith, ap (λ (y : SearchRun). y.tickets) k.0))
-      go initializing.Initialized k = (omega (arith, k.waits), omega (arith, k.waits, k.tickets))
+      go (Ok s) k = (omega (arith, k.waits), omega (arith, k.waits, k.tickets))
 
   -- the node shown is one of the words left
   pub run-shows : Shows left r.shown
-  run-shows = go h.opened.answer h.after
+  run-shows = go h.opened h.after
     where
-      go : (x : InitializeAnswer) → RunsAfter x h.mid h.opened.search r left → Shows left r.shown
-      go (initializing.Refused f line) k = subst (Shows left) (sym (ap (λ (y : SearchRun). y.shown) k.0)) tt
-      go initializing.Initialized k = k.shows
-
--- ---- an order's line, which was read
-
-pub ran_line : (fs bs : List ℕ) (i : ℕ) (l out : List ℕ) (r : ℕ) (fs' bs' out' : List ℕ) (o : Order) (f : Form) → o ≡ order_of l → o.form ≡ f
-    → RanBy f fs bs i o out r fs' bs' out' → RanLine fs bs i l out r fs' bs' out'
-ran_line fs bs i l out r fs' bs' out' o f read e h =
-    subst (λ (x : Order). RanBy x.form fs bs i x out r fs' bs' out') read
-    (subst (λ (x : Form). RanBy x fs bs i o out r fs' bs' out') (sym e) h)
-
--- whatever its form, an order's line is within the bytes lent
-by-within : (f : Form) (fs bs : List ℕ) (i : ℕ) (o : Order) (out : List ℕ) (r : ℕ) (fs' bs' out' : List ℕ) → RanBy f fs bs i o out r fs' bs' out' → r ≤ length out'
-by-within Forward fs bs i o out r fs' bs' out' h = put-within h.ran.text
-by-within Backward fs bs i o out r fs' bs' out' h = put-within h.ran.text
-by-within Illegal fs bs i o out r fs' bs' out' h = put-within h.text
-
-pub line-within : (fs bs : List ℕ) (i : ℕ) (l out : List ℕ) (r : ℕ) (fs' bs' out' : List ℕ) → RanLine fs bs i l out r fs' bs' out' → r ≤ length out'
-line-within fs bs i l = by-within (order_of l).form fs bs i (order_of l)
+      go : (x : Result Search Refusal) → RunsAfter x h.mid r left → Shows left r.shown
+      go (Err f) k = subst (Shows left) (sym (ap (λ (y : SearchRun). y.shown) k.0)) tt
+      go (Ok s) k = k.shows

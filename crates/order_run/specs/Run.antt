@@ -1,7 +1,7 @@
 -- What the functions that run an order and put its line promise each other: the bytes of the line, and the cache left.
 -- Assumes nothing.
-use Rattle.std.specs.Prelude.{◌≡◌, Bool, true, false, List, [], ℕ, ◌+◌, ◌*◌, ◌<◌, ◌≤◌, ltb, length, take}
-use Rattle.model.specs.declared.OpenAnswer.TheVariants.{Opened}
+use Rattle.std.specs.Prelude.{◌≡◌, Bool, true, false, List, [], ℕ, ◌+◌, ◌*◌, ◌<◌, ◌≤◌, ltb, length, Ok, None, Some}
+use Rattle.std.specs.declared.option.Option.{Option}
 use Rattle.model.specs.Answers.{answered, refused}
 use Rattle.model.specs.Sound.{tree}
 use Rattle.model.specs.Path.{moves_of, words}
@@ -14,10 +14,8 @@ use Rattle.layout.specs.Layout.{direction_in}
 use Rattle.sound.specs.Facts.{SoundWords}
 use Rattle.cache.specs.Open.{Opening}
 use Rattle.memory.specs.declared.Shown.{Shown}
-use Rattle.memory.specs.declared.Shown.TheVariants as shown
-use Rattle.order_lines.specs.declared.orders.Numbers.{Numbers}
 use Rattle.order_lines.specs.declared.orders.Form.{Form}
-use Rattle.order_lines.specs.declared.orders.Form.TheVariants.{Forward, Backward, Illegal}
+use Rattle.order_lines.specs.declared.orders.Form.TheVariants.{Forward, Backward}
 use Rattle.order_lines.specs.declared.orders.Order.{Order}
 use Rattle.order_lines.specs.Orders.{order_of}
 use Rattle.order_lines.specs.declared.answers.Line.{Line}
@@ -26,19 +24,10 @@ use Rattle.put_text.specs.Puts.{Puts}
 use Rattle.order_run.specs.Lent.{max_bytes, lent_slots}
 use Rattle.order_run.specs.Orders.{ordered, refused_order, RightLine}
 
--- the numbers of a list that was read
-abbrev pub listed : Numbers → List ℕ
-listed x = take x.count x.numbers
-
 -- an order's number, and the bytes lent for its line
 pub record CanPut (n : ℕ) (out : List ℕ) : Type 0 where
   pub order : n ≤ max_bytes
   pub room : 24576 ≤ length out
-
--- a list's numbers are counted within its array
-pub record InArrays (ss gs : Numbers) : Type 0 where
-  pub starts : ss.count ≤ length ss.numbers
-  pub goals : gs.count ≤ length gs.numbers
 
 -- the words lent for a path: 1,023 moves are the most there are among 1,024 vertices
 pub record PathRoom (path : List ℕ) : Type 0 where
@@ -58,9 +47,9 @@ abbrev pub path_line : Bool → List ℕ → Line → ℕ → ℕ → List ℕ
 path_line true ws l slot n = refused_order l.order 10
 path_line false ws l slot n = answer_line l (words (direction_of (direction_in ws)) (tree (read_cache ws).trees slot).nodes n)
 
-abbrev pub shown_line : List ℕ → Line → Shown → List ℕ
-shown_line ws l shown.Nothing = answer_line l []
-shown_line ws l (shown.Node slot n) = path_line (ltb 2047 (1 + 2 * moves_of (tree (read_cache ws).trees slot).nodes n)) ws l slot n
+abbrev pub shown_line : List ℕ → Line → Option Shown → List ℕ
+shown_line ws l None = answer_line l []
+shown_line ws l (Some x) = path_line (ltb 2047 (1 + 2 * moves_of (tree (read_cache ws).trees x.slot).nodes x.node)) ws l x.slot x.node
 
 -- order i from ss to gs in the words ws: its text stands at the start of out, and r is its length
 pub record Ran (ws : List ℕ) (i : ℕ) (ss gs out : List ℕ) (r : ℕ) (left out' : List ℕ) : Type 0 where
@@ -70,7 +59,7 @@ pub record Ran (ws : List ℕ) (i : ℕ) (ss gs out : List ℕ) (r : ℕ) (left 
 
 -- an order goes to the words of its direction, fs forward or bs backward; the others stay
 pub record RanIn (ws ws' : List ℕ) (i : ℕ) (o : Order) (out : List ℕ) (r : ℕ) (left left' out' : List ℕ) : Type 0 where
-  pub ran : Ran ws i (listed o.starts) (listed o.goals) out r left out'
+  pub ran : Ran ws i o.starts.items o.goals.items out r left out'
   pub stays : left' ≡ ws'
 
 pub record NotRun (fs bs : List ℕ) (i : ℕ) (out : List ℕ) (r : ℕ) (fs' bs' out' : List ℕ) : Type 0 where
@@ -78,14 +67,17 @@ pub record NotRun (fs bs : List ℕ) (i : ℕ) (out : List ℕ) (r : ℕ) (fs' b
   pub forward : fs' ≡ fs
   pub backward : bs' ≡ bs
 
-abbrev pub RanBy : Form → List ℕ → List ℕ → ℕ → Order → List ℕ → ℕ → List ℕ → List ℕ → List ℕ → Type 0
-RanBy Forward fs bs i o out r fs' bs' out' = RanIn fs bs i o out r fs' bs' out'
-RanBy Backward fs bs i o out r fs' bs' out' = RanIn bs fs i o out r bs' fs' out'
-RanBy Illegal fs bs i o out r fs' bs' out' = NotRun fs bs i out r fs' bs' out'
+abbrev pub RanOn : Form → List ℕ → List ℕ → ℕ → Order → List ℕ → ℕ → List ℕ → List ℕ → List ℕ → Type 0
+RanOn Forward fs bs i o out r fs' bs' out' = RanIn fs bs i o out r fs' bs' out'
+RanOn Backward fs bs i o out r fs' bs' out' = RanIn bs fs i o out r bs' fs' out'
+
+abbrev pub RanBy : Option Order → List ℕ → List ℕ → ℕ → List ℕ → ℕ → List ℕ → List ℕ → List ℕ → Type 0
+RanBy None fs bs i out r fs' bs' out' = NotRun fs bs i out r fs' bs' out'
+RanBy (Some o) fs bs i out r fs' bs' out' = RanOn o.form fs bs i o out r fs' bs' out'
 
 -- an order's line l
 abbrev pub RanLine : List ℕ → List ℕ → ℕ → List ℕ → List ℕ → ℕ → List ℕ → List ℕ → List ℕ → Type 0
-RanLine fs bs i l out r fs' bs' out' = RanBy (order_of l).form fs bs i (order_of l) out r fs' bs' out'
+RanLine fs bs i l out r fs' bs' out' = RanBy (order_of l) fs bs i out r fs' bs' out'
 
 -- ---- what is printed is right: of an order that was run in words which hold a cache after any calls, by nothing but the promise
 
@@ -116,5 +108,5 @@ pub record CalledBoth (fs bs : List ℕ) : Type 0 where
 -- an opened cache is such a one
 abbrev pub OpensCalled : Type 0
 OpensCalled =
-    (ws text : List ℕ) (d t : ℕ) (left : List ℕ) → Opening ws text d t Opened left
+    (ws text : List ℕ) (d t : ℕ) (left : List ℕ) → Opening ws text d t (Ok tt) left
     → (g : Graph) × ((read_graph text ≡ answered g) × Called (direction_of d) g t left)

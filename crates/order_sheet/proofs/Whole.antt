@@ -1,9 +1,11 @@
 -- The bytes of a sheet, part by part: what is left of it before and after a part.
 -- Assumes nothing.
 use mathlib.Core.Path.{◌≡◌, refl, sym, ap, ap₂, ◌∙◌, subst}
+use Rattle.model.specs.declared.Refused.{Refused}
+use Rattle.std.specs.declared.option.Option.{Option}
+use Rattle.std.specs.Prelude.{None, Some, Err, Ok}
 use mathlib.Core.Bool.{Bool, true, false}
 use mathlib.Core.List.{List, [], ◌∷◌, ◌++◌, append-nil, append_assoc}
-use mathlib.Core.Option.{Option, none}
 use Prim.Native.Nat.{ℕ, suc, ◌+◌, ◌-◌, ◌<◌, ◌≤◌}
 use native.Mathlib.Numerals.{add-one}
 use native.Mathlib.Omega.{arith}
@@ -11,10 +13,7 @@ use borrow.Author.Tests.{le-ltb}
 use lib.Dec.{ltb}
 use lib.ListN.{length, take, drop, length-drop, length-append}
 use lib.Seq.{drop-drop, length-take-le, take-append-le, take-append_seam, take-append-add}
-use Rattle.model.specs.declared.Refusal.{Refusal}
-use Rattle.model.specs.declared.OpenAnswer.{OpenAnswer}
-use Rattle.model.specs.declared.OpenAnswer.TheVariants as opening
-use Rattle.model.specs.Answers.{Reply, answered, refused, number, open_reply}
+use Rattle.model.specs.Answers.{Reply, answered, refused, number}
 use Rattle.model.specs.Graph.{Graph, backward, vertex_count, edge_count}
 use Rattle.model.specs.Calls.{first_fault, opened}
 use Rattle.model.proofs.Replies.{answered-refused, answered-is}
@@ -29,7 +28,7 @@ use Rattle.cache.specs.Open.{AfterOpen, measure_faults, open_if, open_read, open
 use Rattle.cache.specs.Demand1.{Opens}
 use Rattle.cache.proofs.Demand1.{demand-1}
 use Rattle.order_lines.specs.declared.orders.Form.{Form}
-use Rattle.order_lines.specs.declared.orders.Form.TheVariants.{Forward, Backward, Illegal}
+use Rattle.order_lines.specs.declared.orders.Form.TheVariants.{Forward, Backward}
 use Rattle.order_lines.specs.declared.orders.Order.{Order}
 use Rattle.order_lines.specs.Orders.{order_of}
 use Rattle.order_lines.specs.Answers.{refused_line}
@@ -37,8 +36,8 @@ use Rattle.put_text.specs.Puts.{Puts}
 use Rattle.order_sheet.specs.declared.Part.{Part}
 use Rattle.order_run.specs.Orders.{refused_order}
 use Rattle.order_run.specs.Lent.{lent_words, lent_slots}
-use Rattle.order_sheet.specs.Whole.{title, Caches, PrintedOrder, printed_order_by, printed_order, lines_from, lines_in, lines_text, orders_text, chart_text, fresh_both, is_overlong, files_text, sheet_text}
-use Rattle.order_run.specs.Run.{RanBy, RanLine}
+use Rattle.order_sheet.specs.Whole.{title, Caches, PrintedOrder, printed_on, printed_order_by, printed_order, lines_from, lines_in, lines_text, orders_text, chart_text, fresh_both, is_overlong, files_text, sheet_text}
+use Rattle.order_run.specs.Run.{RanOn, RanBy, RanLine}
 use Rattle.order_sheet.specs.Sheet.{caches_in, CanGoOn, RefusedPart, Begins, PutsNext, WrittenSoFar, Parts, no_more, one_more, WritesSheet}
 use Rattle.order_run.proofs.Within.{put-within}
 use Rattle.order_run.proofs.Called.{called-both, called-after}
@@ -100,22 +99,26 @@ record RanAs (fs bs : List ℕ) (out : List ℕ) (x : PrintedOrder) (r : ℕ) (f
   text : Puts out 0 x.text r out'
   caches : caches_in fs' bs' ≡ x.caches
 
-ran-by : (f : Form) (fs bs : List ℕ) (i : ℕ) (o : Order) (out : List ℕ) (r : ℕ) (fs' bs' out' : List ℕ) → RanBy f fs bs i o out r fs' bs' out'
-    → RanAs fs bs out (printed_order_by f i (caches_in fs bs) o) r fs' bs' out'
-ran-by Forward fs bs i o out r fs' bs' out' h = record {
+ran-on : (f : Form) (fs bs : List ℕ) (i : ℕ) (o : Order) (out : List ℕ) (r : ℕ) (fs' bs' out' : List ℕ) → RanOn f fs bs i o out r fs' bs' out'
+    → RanAs fs bs out (printed_on f i (caches_in fs bs) o) r fs' bs' out'
+ran-on Forward fs bs i o out r fs' bs' out' h = record {
   text = h.ran.text;
   caches = λ j. record { forward = h.ran.cache j; backward = ap read_cache h.stays j };
 }
-ran-by Backward fs bs i o out r fs' bs' out' h = record {
+ran-on Backward fs bs i o out r fs' bs' out' h = record {
   text = h.ran.text;
   caches = λ j. record { forward = ap read_cache h.stays j; backward = h.ran.cache j };
 }
-ran-by Illegal fs bs i o out r fs' bs' out' h = record { text = h.text; caches = ap₂ caches_in h.forward h.backward }
+
+ran-by : (o : Option Order) (fs bs : List ℕ) (i : ℕ) (out : List ℕ) (r : ℕ) (fs' bs' out' : List ℕ) → RanBy o fs bs i out r fs' bs' out'
+    → RanAs fs bs out (printed_order_by o i (caches_in fs bs)) r fs' bs' out'
+ran-by None fs bs i out r fs' bs' out' h = record { text = h.text; caches = ap₂ caches_in h.forward h.backward }
+ran-by (Some o) fs bs i out r fs' bs' out' h = ran-on o.form fs bs i o out r fs' bs' out' h
 
 ran_line : (fs bs : List ℕ) (i : ℕ) (l out : List ℕ) (r : ℕ) (fs' bs' out' : List ℕ) → RanLine fs bs i l out r fs' bs' out'
     → RanAs fs bs out (printed_order i (caches_in fs bs) l) r fs' bs' out'
 unfolding printed_order
-ran_line fs bs i l = ran-by (order_of l).form fs bs i (order_of l)
+ran_line fs bs i l = ran-by (order_of l) fs bs i
 
 module _ {orders fs bs : List ℕ} (out : List ℕ) {p : Part} (left : p.at < length orders) (can : CanGoOn orders fs bs p)
     {k : ℕ} (found : k ≡ place 10 (rest orders p.at)) where
@@ -123,13 +126,13 @@ module _ {orders fs bs : List ℕ} (out : List ℕ) {p : Part} (left : p.at < le
   pub put_last : {r : ℕ} {out' : List ℕ} → p.at + k ≡ length orders → Puts out 0 (refused_order p.order 1) r out'
       → PutsNext orders fs bs out p (record { bytes = r; at = p.at + k; order = p.order + 1 }) fs bs out'
   put_last {r} {out'} e t =
-      let none : lines_text (p.order + 1) (caches_in fs bs) (drop (p.at + k) orders) ≡ [] =
+      let None : lines_text (p.order + 1) (caches_in fs bs) (drop (p.at + k) orders) ≡ [] =
       ap (λ (n : ℕ). lines_text (p.order + 1) (caches_in fs bs) (drop n orders)) e ∙ lines-past (p.order + 1) (caches_in fs bs) orders in
       record {
         part = record {
           text = refused_order p.order 1;
           put = t;
-          rest = last_line p.order (caches_in fs bs) orders p.at found left e ∙ sym (append-nil (refused_order p.order 1)) ∙ ap (λ (x : List ℕ). refused_order p.order 1 ++ x) (sym none);
+          rest = last_line p.order (caches_in fs bs) orders p.at found left e ∙ sym (append-nil (refused_order p.order 1)) ∙ ap (λ (x : List ℕ). refused_order p.order 1 ++ x) (sym None);
           within = omega arith;
           next = λ h. absurd (omega arith);
         };
@@ -165,12 +168,12 @@ sheet-is chart orders = refl
 pub begin-refused : (chart : List ℕ) {orders out : List ℕ} (n : ℕ) {p : Part} (fs bs : List ℕ) {out' : List ℕ} → sheet_text chart orders ≡ refused_line n → RefusedPart orders out n p out'
     → Begins chart orders out p fs bs out'
 begin-refused chart {orders} {out} n {p} fs bs e h =
-    let none : lines_text p.order (caches_in fs bs) (drop p.at orders) ≡ [] =
+    let None : lines_text p.order (caches_in fs bs) (drop p.at orders) ≡ [] =
     ap (λ (k : ℕ). lines_text p.order (caches_in fs bs) (drop k orders)) h.end ∙ lines-past p.order (caches_in fs bs) orders in
     record {
       text = refused_line n;
       put = h.put;
-      rest = e ∙ sym (append-nil (refused_line n)) ∙ ap (λ (x : List ℕ). refused_line n ++ x) (sym none);
+      rest = e ∙ sym (append-nil (refused_line n)) ∙ ap (λ (x : List ℕ). refused_line n ++ x) (sym None);
       within = omega (arith, h.end);
       next = λ more. absurd (omega (arith, h.end));
     }
@@ -194,32 +197,30 @@ module _ (chart orders : List ℕ) where
           ∙ ap (λ (b : Bool). files_text false b chart orders) (sym fewer)
 
       -- either direction's refusal is the chart's
-      pub chart-refused : (ws left : List ℕ) (d : ℕ) {r : OpenAnswer} {f : Refusal} {line n : ℕ} → first_fault (measure_faults d lent_slots) ≡ none
-          → length ws ≡ lent_words → Opening ws chart d lent_slots r left → r ≡ opening.Refused f line → n ≡ number f → sheet_text chart orders ≡ refused_line n
+      pub chart-refused : (ws left : List ℕ) (d : ℕ) (f : Refused) → first_fault (measure_faults d lent_slots) ≡ None
+          → length ws ≡ lent_words → Opening ws chart d lent_slots (Err f) left → sheet_text chart orders ≡ refused_line (number f.refusal)
       unfolding open_cache
-      chart-refused ws left d {r} {f} {line} fine size h e same =
-          charted
-          ∙ go (read_graph chart) (ap open_reply (sym e) ∙ ap (λ (x : AfterOpen). x.reply) (h ∙ ap (λ (o : Option ℕ). open_by o ws chart d lent_slots) fine))
-          ∙ ap refused_line (sym same)
+      chart-refused ws left d f fine size h =
+          charted ∙ go (read_graph chart) (ap (λ (x : AfterOpen). x.reply) (h ∙ ap (λ (o : Option ℕ). open_by o ws chart d lent_slots) fine))
         where
-          by : (g : Graph) (b : Bool) → b ≡ ltb (length ws) (needed (vertex_count g) (edge_count g) lent_slots) → refused (number f) line ≡ (open_if b g ws d lent_slots).reply
-              → orders_text (ltb lent_words (needed (vertex_count g) (edge_count g) lent_slots)) g orders ≡ refused_line (number f)
+          by : (g : Graph) (b : Bool) → b ≡ ltb (length ws) (needed (vertex_count g) (edge_count g) lent_slots) → refused (number f.refusal) f.line ≡ (open_if b g ws d lent_slots).reply
+              → orders_text (ltb lent_words (needed (vertex_count g) (edge_count g) lent_slots)) g orders ≡ refused_line (number f.refusal)
           by g true e r =
-              let five : 5 ≡ number f = cc in
+              let five : 5 ≡ number f.refusal = cc in
               ap (λ (b : Bool). orders_text b g orders) (sym (e ∙ ap (λ (n : ℕ). ltb n (needed (vertex_count g) (edge_count g) lent_slots)) size)) ∙ ap refused_line five
-          by g false e r = absurd (answered-refused tt (number f) line (sym r))
+          by g false e r = absurd (answered-refused tt (number f.refusal) f.line (sym r))
 
-          go : (x : Reply Graph) → refused (number f) line ≡ (open_read x ws d lent_slots).reply → chart_text x orders ≡ refused_line (number f)
-          go (refused n l) r = let same : n ≡ number f = cc in ap refused_line same
+          go : (x : Reply Graph) → refused (number f.refusal) f.line ≡ (open_read x ws d lent_slots).reply → chart_text x orders ≡ refused_line (number f.refusal)
+          go (refused n l) r = let same : n ≡ number f.refusal = cc in ap refused_line same
           go (answered g) r = by g (ltb (length ws) (needed (vertex_count g) (edge_count g) lent_slots)) refl r
 
       -- both caches were opened
       pub begin-opened : (fs bs : List ℕ) {fs' bs' out out' : List ℕ} {r : ℕ} → length fs ≡ lent_words → length orders ≤ 65536
-          → Opening fs chart 0 lent_slots opening.Opened fs' → Opening bs chart 1 lent_slots opening.Opened bs' → Puts out 0 title r out'
+          → Opening fs chart 0 lent_slots (Ok tt) fs' → Opening bs chart 1 lent_slots (Ok tt) bs' → Puts out 0 title r out'
           → Begins chart orders out (record { bytes = r; at = 0; order = 0 }) fs' bs' out'
       begin-opened fs bs {fs'} {bs'} size few f b t =
-          let x : Opens fs chart 0 lent_slots fs' = (demand-1 fs chart 0 lent_slots opening.Opened fs' f).opened refl in
-          let y : Opens bs chart 1 lent_slots bs' = (demand-1 bs chart 1 lent_slots opening.Opened bs' b).opened refl in
+          let x : Opens fs chart 0 lent_slots fs' = (demand-1 fs chart 0 lent_slots (Ok tt) fs' f).opened refl in
+          let y : Opens bs chart 1 lent_slots bs' = (demand-1 bs chart 1 lent_slots (Ok tt) bs' b).opened refl in
           let g : Graph = x.graph in
           let same : y.graph ≡ g = answered-is y.graph g (sym y.read ∙ x.read) in
           let caches : fresh_both g ≡ caches_in fs' bs' = λ j. record {
@@ -297,9 +298,9 @@ pub written_all : {chart orders fs bs out : List ℕ} {n : ℕ} {p : Part} (w : 
     → sheet_text chart orders ≡ w.written ++ take n out
 written_all {orders = orders} {fs} {bs} {out} {n} {p} w past =
     let end : p.at ≡ length orders = omega (arith, w.within) in
-    let none : lines_text p.order (caches_in fs bs) (drop p.at orders) ≡ [] =
+    let None : lines_text p.order (caches_in fs bs) (drop p.at orders) ≡ [] =
     ap (λ (k : ℕ). lines_text p.order (caches_in fs bs) (drop k orders)) end ∙ lines-past p.order (caches_in fs bs) orders in
-    w.rest ∙ ap (λ (l : List ℕ). w.written ++ (take n out ++ l)) none ∙ ap (λ (l : List ℕ). w.written ++ l) (append-nil (take n out))
+    w.rest ∙ ap (λ (l : List ℕ). w.written ++ (take n out ++ l)) None ∙ ap (λ (l : List ℕ). w.written ++ l) (append-nil (take n out))
 
 parts_are : {orders fs bs : List ℕ} {p : Part} {l : List ℕ} → Parts orders fs bs p l → l ≡ lines_text p.order (caches_in fs bs) (drop p.at orders)
 parts_are {orders} {fs} {bs} {p} (no_more e) =

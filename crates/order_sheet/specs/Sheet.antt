@@ -8,13 +8,6 @@ use Rattle.order_run.specs.Lent.{max_bytes, lent_words}
 use Rattle.order_run.specs.Run.{PathRoom, CalledBoth}
 use Rattle.order_sheet.specs.Whole.{Caches, lines_text, sheet_text}
 use Rattle.order_sheet.specs.declared.Part.{Part}
-use Rattle.order_sheet.specs.declared.files.Bytes.{Bytes}
-use Rattle.order_sheet.specs.declared.files.Bytes.TheVariants.{Count, Failed}
-
--- the bytes read are within the space lent
-abbrev pub Within : Bytes → List ℕ → Type 0
-Within (Count n) space = n ≤ length space
-Within Failed space = Unit {0}
 
 -- ---- the sheet, part by part
 

@@ -1,6 +1,7 @@
 -- The whole sheet of a chart and its orders, as bytes. The program writes it part by part.
 -- Assumes nothing.
-use Rattle.std.specs.Prelude.{Bool, true, false, List, [], ◌∷◌, ◌++◌, ℕ, suc, ltb, length}
+use Rattle.std.specs.Prelude.{Bool, true, false, None, Some, List, [], ◌∷◌, ◌++◌, ℕ, suc, ltb, length}
+use Rattle.std.specs.declared.option.Option.{Option}
 use Rattle.model.specs.Answers.{Reply, answered, refused}
 use Rattle.model.specs.Graph.{Graph, forward, backward, vertex_count, edge_count}
 use Rattle.model.specs.Calls.{Cache, opened}
@@ -8,13 +9,12 @@ use Rattle.text.specs.Bytes.{bytes, line_feed, parted}
 use Rattle.text.specs.Read.{read_graph}
 use Rattle.layout.specs.Layout.{needed}
 use Rattle.order_lines.specs.declared.orders.Form.{Form}
-use Rattle.order_lines.specs.declared.orders.Form.TheVariants.{Forward, Backward, Illegal}
+use Rattle.order_lines.specs.declared.orders.Form.TheVariants.{Forward, Backward}
 use Rattle.order_lines.specs.declared.orders.Order.{Order}
 use Rattle.order_lines.specs.Orders.{order_of}
 use Rattle.order_lines.specs.Answers.{refused_line}
 use Rattle.order_run.specs.Lent.{max_bytes, lent_words, lent_slots}
 use Rattle.order_run.specs.Orders.{Ordered, ordered, refused_order}
-use Rattle.order_run.specs.Run.{listed}
 
 -- "(order number, answer, total, waits, tickets, run ..)"
 unfoldable pub title : List ℕ
@@ -36,16 +36,19 @@ on_forward c r = record { caches = record { forward = r.cache; backward = c.back
 abbrev pub on_backward : Caches → Ordered → PrintedOrder
 on_backward c r = record { caches = record { forward = c.forward; backward = r.cache }; text = r.text }
 
+abbrev pub printed_on : Form → ℕ → Caches → Order → PrintedOrder
+printed_on Forward i c o = on_forward c (ordered i c.forward o.starts.items o.goals.items)
+printed_on Backward i c o = on_backward c (ordered i c.backward o.starts.items o.goals.items)
+
 -- "An order without this form is refused 1, before any opening."
-abbrev pub printed_order_by : Form → ℕ → Caches → Order → PrintedOrder
-printed_order_by Forward i c o = on_forward c (ordered i c.forward (listed o.starts) (listed o.goals))
-printed_order_by Backward i c o = on_backward c (ordered i c.backward (listed o.starts) (listed o.goals))
-printed_order_by Illegal i c o = record { caches = c; text = refused_order i 1 }
+abbrev pub printed_order_by : Option Order → ℕ → Caches → PrintedOrder
+printed_order_by None i c = record { caches = c; text = refused_order i 1 }
+printed_order_by (Some o) i c = printed_on o.form i c o
 
 -- order i, whose line l is without its LF
 unfoldable pub printed_order : ℕ → Caches → List ℕ → PrintedOrder
 unfolding order_of ordered
-printed_order i c l = printed_order_by (order_of l).form i c (order_of l)
+printed_order i c l = printed_order_by (order_of l) i c
 
 -- what stands past the last LF is no order if it is empty, and else one without LF
 abbrev pub unended_text : ℕ → List ℕ → List ℕ

@@ -1,6 +1,5 @@
 // The sheet of two files.
-ghost use Rattle.order_sheet.specs.Sheet.{Within};
-ghost use Rattle.std.specs.Prelude.{◌≤◌, length, IfOk};
+ghost use Rattle.std.specs.Prelude.{◌≤◌, length, IfSome, IfOk};
 
 use crate::{MAX_BYTES, run};
 use std::fs::File;
@@ -11,36 +10,26 @@ use std::str;
 // One byte more than a file may have.
 const SPACE: usize = MAX_BYTES + 1;
 
-#[derive(Clone, Copy)]
-pub enum Bytes {
-    Count(usize),
-    Failed,
-}
-
 // Prints the sheet of the files with these names. Where one of them cannot be read, standard error says so, and nothing is printed.
 pub fn run_files(rt: &(impl Files + Eprint), chart_name: &[u8], orders_name: &[u8]) {
     let mut chart = [0u8; SPACE];
-    let Bytes::Count(n) = read_file(rt, chart_name, &mut chart) else {
+    let Some(n) = read_file(rt, chart_name, &mut chart) else {
         return;
     };
     let mut orders = [0u8; SPACE];
-    let Bytes::Count(m) = read_file(rt, orders_name, &mut orders) else {
+    let Some(m) = read_file(rt, orders_name, &mut orders) else {
         return;
     };
-    run(&chart[0..n], &orders[0..m]);
+    run(&chart[..n], &orders[..m]);
 }
 
-// A file's first bytes, as many as there is space for.
-pub fn read_file(rt: &(impl Files + Eprint), name: &[u8], space: &mut [u8]) -> Bytes
-    ensures { Within result space.new }
+// A file's first bytes, as many as there is space for, or none where it cannot be read.
+pub fn read_file(rt: &(impl Files + Eprint), name: &[u8], space: &mut [u8]) -> Option<usize>
+    ensures { IfSome result (λ n. n ≤ length space.new) }
 {
-    match read_named(rt, name, space) {
-        Ok(n) => Bytes::Count(n),
-        Err(error) => {
-            fail(rt, name, &error);
-            Bytes::Failed
-        }
-    }
+    read_named(rt, name, space)
+        .inspect_err(|error| fail(rt, name, error))
+        .ok()
 }
 
 // A name that is no text names no file that can be opened.
@@ -59,6 +48,7 @@ fn read_all(file: &mut impl Read, space: &mut [u8]) -> std::io::Result<usize>
     ensures { IfOk result (λ n. n ≤ length space.new) }
 {
     let mut at = 0;
+    // By as many bytes as each read gives.
     while at < space.len() {
         let n = file.read(&mut space[at..])?;
         if n == 0 {

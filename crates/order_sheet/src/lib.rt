@@ -6,10 +6,11 @@
 pub mod files;
 
 ghost use Rattle.std.specs.Prelude.{◌≡◌, ◌≤◌, length};
+ghost use Rattle.model.specs.Answers.{number as refusal_number};
 ghost use Rattle.order_sheet.specs.Whole.{is_overlong};
 ghost use Rattle.order_sheet.specs.Sheet.{CanBegin, Begins, RefusedPart, CanPutNext, PutsNext};
 
-use model::{OpenAnswer, number};
+use model::{Refusal, number};
 use order_lines::answers::put_refused;
 use order_run::{MAX_PATH, put_order, put_refusal};
 use put_text::put_bytes;
@@ -45,9 +46,10 @@ pub fn run(chart: &[u8], orders: &[u8]) {
     let mut out = [0u8; SPACE];
     let mut part = begin(&mut forward, &mut backward, chart, orders, &mut out);
     let mut filled = part.bytes;
+    // By as many bytes as each order has, which is known once it is put.
     while part.at < orders.len() {
         if SPACE - LINE < filled {
-            io::write_all(1, &out[0..filled]);
+            io::write_all(1, &out[..filled]);
             filled = 0;
         }
         part = put_next(
@@ -60,7 +62,7 @@ pub fn run(chart: &[u8], orders: &[u8]) {
         );
         filled += part.bytes;
     }
-    io::write_all(1, &out[0..filled]);
+    io::write_all(1, &out[..filled]);
 }
 
 // The first part: the title, where both caches were opened. If a file is too long, or the chart is refused, a line that says so is
@@ -75,17 +77,14 @@ fn begin(
     requires { CanBegin forward.old backward.old out.old }
     ensures { Begins chart.now orders.now out.old result forward.new backward.new out.new }
 {
-    if is_overlong(chart) {
-        return refused_sheet(orders, out, 4);
+    if is_overlong(chart) || is_overlong(orders) {
+        return refused_sheet(orders, out, Refusal::OverLimit);
     }
-    if is_overlong(orders) {
-        return refused_sheet(orders, out, 4);
+    if let Err(refused) = cache::open(forward, chart, 0, SLOTS) {
+        return refused_sheet(orders, out, refused.refusal);
     }
-    if let OpenAnswer::Refused { refusal, line: _ } = cache::open(forward, chart, 0, SLOTS) {
-        return refused_sheet(orders, out, number(refusal));
-    }
-    if let OpenAnswer::Refused { refusal, line: _ } = cache::open(backward, chart, 1, SLOTS) {
-        return refused_sheet(orders, out, number(refusal));
+    if let Err(refused) = cache::open(backward, chart, 1, SLOTS) {
+        return refused_sheet(orders, out, refused.refusal);
     }
     Part {
         bytes: put_bytes(out, 0, b"order,answer,total,waits,tickets,run\n"),
@@ -101,12 +100,12 @@ fn is_overlong(file: &[u8]) -> bool
 }
 
 // A sheet that is refused has no lines of orders.
-fn refused_sheet(orders: &[u8], out: &mut [u8], number: u32) -> Part
+fn refused_sheet(orders: &[u8], out: &mut [u8], refusal: Refusal) -> Part
     requires { 24576 ≤ length out.old }
-    ensures { RefusedPart orders.now out.old number result out.new }
+    ensures { RefusedPart orders.now out.old (refusal_number refusal) result out.new }
 {
     Part {
-        bytes: put_refused(out, number),
+        bytes: put_refused(out, number(refusal)),
         at: orders.len(),
         order: 0,
     }

@@ -7,8 +7,6 @@ ghost use Rattle.std.specs.Prelude.{length};
 ghost use Rattle.layout.specs.Layout.{direction_in};
 ghost use Rattle.paths.specs.Path.{Hung, MovesIs, CanBacktrack, Backtracks};
 
-use layout::wide;
-
 // How many edges lead from the root to a node.
 pub fn moves(tree: &[u32], node: usize) -> usize
     requires { Hung tree.now node }
@@ -16,8 +14,9 @@ pub fn moves(tree: &[u32], node: usize) -> usize
 {
     let mut moves = 0;
     let mut at = node;
+    // No index is counted: the next node is the parent.
     while 0 < at {
-        at = wide(layout::node_parent(tree, at));
+        at = layout::node_parent(tree, at) as usize;
         moves += 1;
     }
     moves
@@ -34,7 +33,7 @@ pub fn backtrack(words: &[u32], tree: &[u32], node: usize, path: &mut [u32]) -> 
         path[0] = vertex;
         return 1;
     }
-    let parent = wide(layout::node_parent(tree, node));
+    let parent = layout::node_parent(tree, node) as usize;
     let edge = layout::node_edge(tree, node);
     if words[layout::DIRECTION] == 0 {
         let written = backtrack(words, tree, parent, path);
@@ -42,8 +41,7 @@ pub fn backtrack(words: &[u32], tree: &[u32], node: usize, path: &mut [u32]) -> 
         path[written + 1] = vertex;
         return written + 2;
     }
-    let end = path.len();
-    let written = backtrack(words, tree, parent, &mut path[2..end]);
+    let written = backtrack(words, tree, parent, &mut path[2..]);
     path[0] = vertex;
     path[1] = edge;
     written + 2

@@ -1,6 +1,9 @@
 -- A call of `solve` in lists of calls: the search's own steps in its chain, and calls of `step` anywhere. A call of `plan`: the three calls.
 -- Assumes nothing.
 use mathlib.Core.Path.{◌≡◌, refl, sym, ap, ◌∙◌, subst}
+use Rattle.std.specs.Prelude.{Err, Ok}
+use Rattle.std.specs.declared.result.Result.{Result}
+use Rattle.model.specs.declared.Refusal.{Refusal}
 use mathlib.Core.Bool.{Bool, true, true≢false}
 use mathlib.Core.Logic.{inl, inr}
 use mathlib.Core.List.{List, [], ◌∷◌, ◌++◌, append_assoc, append-nil}
@@ -12,7 +15,6 @@ use Rattle.model.specs.declared.Search.{Search}
 use Rattle.model.specs.Answers.{answered, is_answered, waiting, step_reply, retrace_reply}
 use Rattle.model.specs.Solve.{is_waiting}
 use Rattle.model.specs.declared.Planned.{Planned}
-use Rattle.model.specs.declared.RetraceAnswer.{RetraceAnswer}
 use Rattle.model.specs.declared.StepsTaken.{StepsTaken}
 use Rattle.model.proofs.Solve.{is-waiting, last-cases}
 use Rattle.model.specs.Demands.{Act, own_step, Event, stepped}
@@ -91,9 +93,9 @@ pub in-lists : InLists
 in-lists ws s n r left p = steps-made p.called
 
 calls-made : {ws ss gs p : List ℕ} {r : Planned} {left q : List ℕ} (k : CallsMade ws ss gs p r left q) → Made ws (planning_call k) left
-calls-made {ws} {ss} {gs} (not_opened o f line i e) = made_initialize ss gs o i
-calls-made {ws} {ss} {gs} {p} (to_the_end {q = q} o e t i a s k) =
-    made_both (made_initialize ss gs o i) (made_both (steps-made s.called) (made_retrace e.search p t q k))
+calls-made {ws} {ss} {gs} (not_opened f i) = made_initialize ss gs (Err f) i
+calls-made {ws} {ss} {gs} {p} (to_the_end {q = q} x e t i s k) =
+    made_both (made_initialize ss gs (Ok x) i) (made_both (steps-made s.called) (made_retrace e.search p t q k))
 
 pub plan-in-lists : Plan.InLists
 plan-in-lists ws ss gs p r left q k = calls-made k.called
@@ -101,9 +103,9 @@ plan-in-lists ws ss gs p r left q k = calls-made k.called
 -- ---- the retrace of a `plan` that is not refused
 
 called-retraced : {ws ss gs p : List ℕ} {r : Planned} {left q : List ℕ} → CallsMade ws ss gs p r left q → is_answered (step_reply r.answer) ≡ true
-    → (t : RetraceAnswer) × (Retracing left r.search p t q × (r.has_path ≡ is_answered (retrace_reply t)))
-called-retraced (not_opened o f line i e) told = absurd (true≢false (sym told))
-called-retraced (to_the_end o e t i a s k) told = (t, (k, refl))
+    → (t : Result ℕ Refusal) × (Retracing left r.search p t q × (r.has_path ≡ is_answered (retrace_reply t)))
+called-retraced (not_opened f i) told = absurd (true≢false (sym told))
+called-retraced (to_the_end x e t i s k) told = (t, (k, refl))
 
 pub plan-retraced : Plan.Retraced
 plan-retraced ws ss gs p r left q k told = called-retraced k.called told

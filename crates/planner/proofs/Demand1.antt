@@ -1,11 +1,11 @@
 -- A refused call of `solve` has changed nothing.
 -- Assumes nothing.
 use mathlib.Core.Path.{◌≡◌, sym, ap, ◌∙◌}
+use Rattle.std.specs.Prelude.{Err}
 use mathlib.Core.List.{List}
 use Prim.Native.Nat.{ℕ}
 use native.Mathlib.Omega.{arith}
 use Rattle.model.specs.declared.Refusal.{Refusal}
-use Rattle.model.specs.declared.StepAnswer.TheVariants as stepping
 use Rattle.model.specs.declared.Search.{Search}
 use Rattle.model.specs.Answers.{refused, waiting, number, step_reply}
 use Rattle.model.proofs.Replies.{answered-refused, step-told}
@@ -16,15 +16,15 @@ use Rattle.planner.specs.Solve.{StepsCalled, Demand1}
 use Rattle.model.proofs.Solve.{refused-first}
 use Rattle.unchecked.proofs.Waits.{unmoved}
 
-module _ {ws : List ℕ} {s : Search} {n : ℕ} (f : Refusal) (line : ℕ) where
-  called-leaves : {r : StepsTaken} {left : List ℕ} → StepsCalled ws s n r left → step_reply r.answer ≡ refused (number f) line
-      → (left ≡ ws) × ((r.search ≡ s) × ((r.waits ≡ 0) × ((r.tickets ≡ 0) × (line ≡ 0))))
-  called-leaves (all_wait v z) e = absurd (answered-refused waiting (number f) line e)
+module _ {ws : List ℕ} {s : Search} {n : ℕ} (f : Refusal) where
+  called-leaves : {r : StepsTaken} {left : List ℕ} → StepsCalled ws s n r left → step_reply r.answer ≡ refused (number f) 0
+      → (left ≡ ws) × ((r.search ≡ s) × ((r.waits ≡ 0) × (r.tickets ≡ 0)))
+  called-leaves (all_wait v z) e = absurd (answered-refused waiting (number f) 0 e)
   called-leaves (one_ends {w = w} {mid = mid} {left = left} {x = x} r a below v p ends told) e =
-      let first = refused-first w (step_reply r.answer) (number f) line (sym told ∙ e) in
+      let first = refused-first w (step_reply r.answer) (number f) 0 (sym told ∙ e) in
       let h = unmoved v first.0 in
-      let k = (calls.demand-1).1 mid x r left p f line (step-told r.answer (stepping.Refused f line) first.1) in
-      (k.0 ∙ h.words, (k.1.0 ∙ h.search, (first.0, (omega (arith, h.tickets, k.1.1.0), k.1.1.1))))
+      let k = (calls.demand-1).1 mid x r left p f (step-told r.answer (Err f) first.1) in
+      (k.0 ∙ h.words, (k.1.0 ∙ h.search, (first.0, omega (arith, h.tickets, k.1.1))))
 
 pub demand-1 : Demand1
-demand-1 ws s n r left p f line e = called-leaves f line p.called (ap step_reply e)
+demand-1 ws s n r left p f e = called-leaves f p.called (ap step_reply e)

@@ -1,24 +1,20 @@
 -- A search that was just opened on sound words is stepped to its end: it answers, and its path is written where the slice has room for it.
 -- Assumes nothing.
 use mathlib.Core.Path.{◌≡◌, refl, sym, ap, ap₂, ◌∙◌, subst}
+use Rattle.std.specs.declared.result.Result.{Result}
+use Rattle.model.specs.declared.Refusal.{Refusal}
+use Rattle.std.specs.declared.option.Option.{Option}
+use Rattle.std.specs.Prelude.{None, Some, Err, Ok}
 use mathlib.Core.Bool.{Bool, true, false, ◌&&◌, true≢false}
 use mathlib.Core.List.{List, Memᴰ}
-use mathlib.Core.Option.{none}
 use Prim.Native.Nat.{ℕ, zero, suc, ◌+◌, ◌*◌, ◌≤◌}
 use native.Mathlib.Omega.{arith}
 use borrow.Author.Tests.{ltb-true, ltb-false, le-ltb, le-leb, lt-leb}
 use lib.Dec.{leb, ltb}
 use lib.ListN.{length}
 use Rattle.model.specs.declared.BestSolution.{BestSolution}
-use Rattle.model.specs.declared.BestSolution.TheVariants.{NoBest, Best}
-use Rattle.model.specs.declared.InitializeAnswer.TheVariants as initializing
 use Rattle.model.specs.declared.Planned.{Planned}
-use Rattle.model.specs.declared.RetraceAnswer.{RetraceAnswer}
-use Rattle.model.specs.declared.RetraceAnswer.TheVariants as retracing
 use Rattle.model.specs.declared.Search.{Search}
-use Rattle.model.specs.declared.SearchOpened.{SearchOpened}
-use Rattle.model.specs.declared.Solution.{Solution}
-use Rattle.model.specs.declared.Solution.TheVariants.{Unsolved, At}
 use Rattle.model.specs.declared.StepsTaken.{StepsTaken}
 use Rattle.model.specs.Answers.{answered, is_answered, number, Status, solved, no_path, step_reply, retrace_reply}
 use Rattle.model.specs.Graph.{Accepted, Domain, Direction}
@@ -46,9 +42,9 @@ use Rattle.planner.proofs.Planned.{end, end_is, path-is, accepted-sound}
 
 -- ---- a final answer
 
-final-told : (t : Tree) (o : Solution) → is_waiting (answered (status_at t o)) ≡ false
-final-told t Unsolved = refl
-final-told t (At n) = refl
+final-told : (t : Tree) (o : Option ℕ) → is_waiting (answered (status_at t o)) ≡ false
+final-told t None = refl
+final-told t (Some n) = refl
 
 final-ends : (ts : List Tree) (s : Search) → is_waiting (answered (final_status ts s)) ≡ false
 unfolding final_status
@@ -115,44 +111,35 @@ own-ended {ws} {s} o =
     subst Ended (sym (solve-some 131137 c s))
     (steps-ended c.domain (sound-accepted ws o.sound) o.vs o.gs o.mine c.slots 131137 c.trees s 0 0 o.state (λ e. omega (arith, o.few)))
 
-module _ (ws ss gs p : List ℕ) {o : SearchOpened} {mid : List ℕ} (i : Initializing ws ss gs o mid) (a : o.answer ≡ initializing.Initialized)
-    {e : StepsTaken} {left : List ℕ} (s : Solving mid o.search max_steps e left) where
-  just-opened : JustOpened mid o.search
+module _ (ws ss gs p : List ℕ) {x : Search} {mid : List ℕ} (i : Initializing ws ss gs (Ok x) mid) {e : StepsTaken} {left : List ℕ}
+    (s : Solving mid x max_steps e left) where
+  just-opened : JustOpened mid x
   just-opened =
-      let ok = accepted-sound ws ss gs p i a in
-      record {
-        earlier = ws;
-        ss = ss;
-        gs = gs;
-        opened = o;
-        sound = sound-words-at ws ok;
-        opens = opening.as-sound ws ss gs ok o mid i;
-        accepted = a;
-        search = refl;
-      }
+      let ok = accepted-sound ws ss gs p i in
+      record { earlier = ws; ss = ss; gs = gs; sound = sound-words-at ws ok; opens = opening.as-sound ws ss gs ok (Ok x) mid i }
 
-  pub end-ended : Ended (end ws ss gs p i a s)
+  pub end-ended : Ended (end ws ss gs p i s)
   end-ended = subst Ended (ap₂ (λ (c : Cache) (x : Search). solve max_steps c x) i.cache i.search) (own-ended (own-search just-opened))
 
-  pub end-told : step_reply e.answer ≡ answered (final_status (end ws ss gs p i a s).cache.trees (end ws ss gs p i a s).search)
-  end-told = s.answer ∙ ap (λ (y : AfterSteps). y.reply) (end_is ws ss gs p i a s) ∙ end-ended.told
+  pub end-told : step_reply e.answer ≡ answered (final_status (end ws ss gs p i s).cache.trees (end ws ss gs p i s).search)
+  end-told = s.answer ∙ ap (λ (y : AfterSteps). y.reply) (end_is ws ss gs p i s) ∙ end-ended.told
 
 called-ends : {ws ss gs p : List ℕ} {r : Planned} {left q : List ℕ} → CallsMade ws ss gs p r left q → is_waiting (step_reply r.answer) ≡ false
-called-ends (not_opened o f line i e) = refl
-called-ends {ws} {ss} {gs} {p} (to_the_end o e t i a s k) = ap is_waiting (end-told ws ss gs p i a s) ∙ final-ends _ _
+called-ends (not_opened f i) = refl
+called-ends {ws} {ss} {gs} {p} (to_the_end x e t i s k) = ap is_waiting (end-told ws ss gs p i s) ∙ final-ends _ _
 
 pub ends : Ends
 ends ws ss gs p r left q k = called-ends k.called
 
 -- ---- the path
 
-best-shown : (s : Search) (n : ℕ) (b : BestSolution) → shown_by s b ≡ At n → is_best b ≡ true
-best-shown s n NoBest e = absurd (unsolved-at n e)
-best-shown s n (Best i j) e = refl
+best-shown : (s : Search) (n : ℕ) (b : Option BestSolution) → shown_by s b ≡ Some n → is_best b ≡ true
+best-shown s n None e = absurd (unsolved-at n e)
+best-shown s n (Some b) e = refl
 
 module _ (p : List ℕ) where
-  has_room : (m : ℕ) (b : Bool) → ltb (length p) (1 + 2 * m) ≡ b → (dir : Direction) (t : Tree) (o : Solution)
-      → is_answered (shown_as (or_else b 10 none) dir t o p).reply ≡ leb (1 + 2 * m) (length p)
+  has_room : (m : ℕ) (b : Bool) → ltb (length p) (1 + 2 * m) ≡ b → (dir : Direction) (t : Tree) (o : Option ℕ)
+      → is_answered (shown_as (or_else b 10 None) dir t o p).reply ≡ leb (1 + 2 * m) (length p)
   has_room m true e dir t o = sym (lt-leb (1 + 2 * m) (length p) (ltb-true _ _ e))
   has_room m false e dir t o = sym (le-leb (1 + 2 * m) (length p) (ltb-false _ _ e))
 
@@ -162,12 +149,12 @@ module _ (p : List ℕ) where
     t = shown_tree c.trees s
 
     -- one that has no path has no best
-    no-path-by : (b : BestSolution) → s.best_solution ≡ b → status_at t (shown s) ≡ no_path → is_answered (retrace c s p).reply ≡ false
-    no-path-by NoBest z e =
+    no-path-by : (b : Option BestSolution) → s.best_solution ≡ b → status_at t (shown s) ≡ no_path → is_answered (retrace c s p).reply ≡ false
+    no-path-by None z e =
         ap (λ (r : AfterRetrace). is_answered r.reply)
-        (retrace-as c s p ∙ ap₂ (λ (v x : Bool). retrace_as v x c.domain.direction t (shown s) p) fine (ap₂ (λ (x : Bool) (b : BestSolution). x && is_best b) done z))
-    no-path-by (Best i n) z e =
-        let h = (valid-at c.domain c.trees s fine).held done i n z in
+        (retrace-as c s p ∙ ap₂ (λ (v x : Bool). retrace_as v x c.domain.direction t (shown s) p) fine (ap₂ (λ (x : Bool) (b : Option BestSolution). x && is_best b) done z))
+    no-path-by (Some b) z e =
+        let h = (valid-at c.domain c.trees s fine).held done b.entry b.node z in
         absurd (no-path _ _ (sym e ∙ ap (status_at t) (ap (shown_by s) z ∙ h.1)))
 
     not-shown : final_status c.trees s ≡ no_path → is_answered (retrace c s p).reply ≡ false
@@ -175,27 +162,27 @@ module _ (p : List ℕ) where
     not-shown e = no-path-by s.best_solution refl e
 
     -- one that shows a node is refused by 10 alone
-    shows-node : (n : ℕ) → shown s ≡ At n → retrace c s p ≡ retrace_as true true c.domain.direction t (At n) p
+    shows-node : (n : ℕ) → shown s ≡ Some n → retrace c s p ≡ retrace_as true true c.domain.direction t (Some n) p
     shows-node n z =
         let best : solved_already s ≡ true = ap₂ (λ (x y : Bool). x && y) done (best-shown s n s.best_solution z) in
         retrace-as c s p
         ∙ ap₂ (λ (v x : Bool). retrace_as v x c.domain.direction t (shown s) p) fine best
-        ∙ ap (λ (o : Solution). retrace_as true true c.domain.direction t o p) z
+        ∙ ap (λ (o : Option ℕ). retrace_as true true c.domain.direction t o p) z
 
-    path-by : (k m : ℕ) (o : Solution) → shown s ≡ o → status_at t o ≡ solved k m → is_answered (retrace c s p).reply ≡ leb (1 + 2 * m) (length p)
-    path-by k m Unsolved z e = absurd (no-path k m e)
-    path-by k m (At n) z e =
-        let same : moves_at t (At n) ≡ m = cc in
+    path-by : (k m : ℕ) (o : Option ℕ) → shown s ≡ o → status_at t o ≡ solved k m → is_answered (retrace c s p).reply ≡ leb (1 + 2 * m) (length p)
+    path-by k m None z e = absurd (no-path k m e)
+    path-by k m (Some n) z e =
+        let same : moves_at t (Some n) ≡ m = cc in
         ap (λ (r : AfterRetrace). is_answered r.reply) (shows-node n z)
-        ∙ has_room (moves_at t (At n)) _ refl c.domain.direction t (At n)
+        ∙ has_room (moves_at t (Some n)) _ refl c.domain.direction t (Some n)
         ∙ ap (λ (j : ℕ). leb (1 + 2 * j) (length p)) same
 
-    moves-by : (k m : ℕ) (o : Solution) → shown s ≡ o → status_at t o ≡ solved k m → 1 + 2 * m ≤ length p → (retrace c s p).reply ≡ answered m
-    moves-by k m Unsolved z e h = absurd (no-path k m e)
-    moves-by k m (At n) z e h =
-        let same : moves_at t (At n) ≡ m = cc in
-        let fits : ltb (length p) (1 + 2 * moves_at t (At n)) ≡ false = le-ltb (length p) _ (subst (λ (j : ℕ). 1 + 2 * j ≤ length p) (sym same) h) in
-        ap (λ (r : AfterRetrace). r.reply) (shows-node n z ∙ ap (λ (b : Bool). shown_as (or_else b 10 none) c.domain.direction t (At n) p) fits)
+    moves-by : (k m : ℕ) (o : Option ℕ) → shown s ≡ o → status_at t o ≡ solved k m → 1 + 2 * m ≤ length p → (retrace c s p).reply ≡ answered m
+    moves-by k m None z e h = absurd (no-path k m e)
+    moves-by k m (Some n) z e h =
+        let same : moves_at t (Some n) ≡ m = cc in
+        let fits : ltb (length p) (1 + 2 * moves_at t (Some n)) ≡ false = le-ltb (length p) _ (subst (λ (j : ℕ). 1 + 2 * j ≤ length p) (sym same) h) in
+        ap (λ (r : AfterRetrace). r.reply) (shows-node n z ∙ ap (λ (b : Bool). shown_as (or_else b 10 None) c.domain.direction t (Some n) p) fits)
         ∙ ap answered same
 
     path-written : (k m : ℕ) → final_status c.trees s ≡ solved k m → is_answered (retrace c s p).reply ≡ leb (1 + 2 * m) (length p)
@@ -207,31 +194,31 @@ module _ (p : List ℕ) where
     moves-told k m e = moves-by k m (shown s) refl e
 
 -- a refused retrace leaves the slice
-not_written : (left : List ℕ) (s : Search) (p : List ℕ) (t : RetraceAnswer) (q : List ℕ) → Retracing left s p t q → is_answered (retrace_reply t) ≡ false → q ≡ p
-not_written left s p (retracing.Moves n) q k e = absurd (true≢false e)
-not_written left s p (retracing.Refused f line) q k e = ((calls.demand-1).2 left s p (retracing.Refused f line) q k f line refl).0
+not_written : (left : List ℕ) (s : Search) (p : List ℕ) (t : Result ℕ Refusal) (q : List ℕ) → Retracing left s p t q → is_answered (retrace_reply t) ≡ false → q ≡ p
+not_written left s p (Ok n) q k e = absurd (true≢false e)
+not_written left s p (Err f) q k e = (calls.demand-1).2 left s p (Err f) q k f refl
 
 module _ {ws ss gs p : List ℕ} where
   room : {r : Planned} {left q : List ℕ} → CallsMade ws ss gs p r left q
       → (c m : ℕ) → step_reply r.answer ≡ answered (solved c m) → r.has_path ≡ leb (1 + 2 * m) (length p)
-  room (not_opened o f line i e) c m told = absurd (answered-refused (solved c m) (number f) line (sym told))
-  room (to_the_end o e x i a s k) c m told =
-      let h = end-ended ws ss gs p i a s in
-      let y : AfterSteps = end ws ss gs p i a s in
-      ap (λ (z : AfterRetrace). is_answered z.reply) (k ∙ path-is ws ss gs p i a s)
-      ∙ path-written p y.cache y.search h.fine h.done c m (answered-is _ _ (sym (end-told ws ss gs p i a s) ∙ told))
+  room (not_opened f i) c m told = absurd (answered-refused (solved c m) (number f) 0 (sym told))
+  room (to_the_end y e x i s k) c m told =
+      let h = end-ended ws ss gs p i s in
+      let y : AfterSteps = end ws ss gs p i s in
+      ap (λ (z : AfterRetrace). is_answered z.reply) (k ∙ path-is ws ss gs p i s)
+      ∙ path-written p y.cache y.search h.fine h.done c m (answered-is _ _ (sym (end-told ws ss gs p i s) ∙ told))
 
   none-shown : {r : Planned} {left q : List ℕ} → CallsMade ws ss gs p r left q → step_reply r.answer ≡ answered no_path → r.has_path ≡ false
-  none-shown (not_opened o f line i e) told = refl
-  none-shown (to_the_end o e x i a s k) told =
-      let h = end-ended ws ss gs p i a s in
-      let y : AfterSteps = end ws ss gs p i a s in
-      ap (λ (z : AfterRetrace). is_answered z.reply) (k ∙ path-is ws ss gs p i a s)
-      ∙ not-shown p y.cache y.search h.fine h.done (answered-is _ _ (sym (end-told ws ss gs p i a s) ∙ told))
+  none-shown (not_opened f i) told = refl
+  none-shown (to_the_end y e x i s k) told =
+      let h = end-ended ws ss gs p i s in
+      let y : AfterSteps = end ws ss gs p i s in
+      ap (λ (z : AfterRetrace). is_answered z.reply) (k ∙ path-is ws ss gs p i s)
+      ∙ not-shown p y.cache y.search h.fine h.done (answered-is _ _ (sym (end-told ws ss gs p i s) ∙ told))
 
   slice_kept : {r : Planned} {left q : List ℕ} → CallsMade ws ss gs p r left q → r.has_path ≡ false → q ≡ p
-  slice_kept (not_opened o f line i e) z = refl
-  slice_kept (to_the_end {left = l} {q = q} o e x i a s k) z = not_written l e.search p x q k z
+  slice_kept (not_opened f i) z = refl
+  slice_kept (to_the_end {left = l} {q = q} y e x i s k) z = not_written l e.search p x q k z
 
 pub has-path : HasPath
 has-path ws ss gs p r left q k = (room k.called, none-shown k.called, slice_kept k.called)
@@ -239,13 +226,13 @@ has-path ws ss gs p r left q k = (room k.called, none-shown k.called, slice_kept
 -- ---- a later retrace
 
 called-retraces : {ws ss gs p : List ℕ} {r : Planned} {left q : List ℕ} → CallsMade ws ss gs p r left q → (c m : ℕ) → step_reply r.answer ≡ answered (solved c m)
-    → (p' : List ℕ) (t : RetraceAnswer) (q' : List ℕ) → Retracing left r.search p' t q' → 1 + 2 * m ≤ length p' → retrace_reply t ≡ answered m
-called-retraces (not_opened o f line i e) c m told p' u q' later fits = absurd (answered-refused (solved c m) (number f) line (sym told))
-called-retraces {ws} {ss} {gs} (to_the_end o e x i a s k) c m told p' u q' later fits =
-    let h = end-ended ws ss gs p' i a s in
-    let y : AfterSteps = end ws ss gs p' i a s in
-    ap (λ (z : AfterRetrace). z.reply) (later ∙ path-is ws ss gs p' i a s)
-    ∙ moves-told p' y.cache y.search h.fine h.done c m (answered-is _ _ (sym (end-told ws ss gs p' i a s) ∙ told)) fits
+    → (p' : List ℕ) (t : Result ℕ Refusal) (q' : List ℕ) → Retracing left r.search p' t q' → 1 + 2 * m ≤ length p' → retrace_reply t ≡ answered m
+called-retraces (not_opened f i) c m told p' u q' later fits = absurd (answered-refused (solved c m) (number f) 0 (sym told))
+called-retraces {ws} {ss} {gs} (to_the_end y e x i s k) c m told p' u q' later fits =
+    let h = end-ended ws ss gs p' i s in
+    let y : AfterSteps = end ws ss gs p' i s in
+    ap (λ (z : AfterRetrace). z.reply) (later ∙ path-is ws ss gs p' i s)
+    ∙ moves-told p' y.cache y.search h.fine h.done c m (answered-is _ _ (sym (end-told ws ss gs p' i s) ∙ told)) fits
 
 pub retraces-later : RetracesLater
 retraces-later ws ss gs p r left q k = called-retraces k.called

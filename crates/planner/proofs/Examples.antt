@@ -1,20 +1,18 @@
 -- `solve` by computation: on 01's chart from 0 to 2, two steps wait and take 3 and 1 tickets, and the third answers.
 -- Assumes nothing.
 use mathlib.Core.Path.{◌≡◌, refl}
+use Rattle.std.specs.Prelude.{None, Some}
 use mathlib.Core.Bool.{true, false}
 use mathlib.Core.List.{[], ◌∷◌}
 use Prim.Native.Nat.{ℕ}
 use lib.ListN.{set, replicate}
-use Rattle.model.specs.declared.KnownLen.TheVariants.{Len}
-use Rattle.model.specs.declared.Solution.TheVariants.{Unsolved, At}
-use Rattle.model.specs.declared.BestSolution.TheVariants.{Best}
 use Rattle.model.specs.declared.Search.{Search}
 use Rattle.model.specs.Answers.{Reply, answered, refused, Status, waiting, solved}
 use Rattle.model.specs.Path.{path}
 use Rattle.model.specs.Solve.{AfterSteps, solve}
 use Rattle.model.specs.Worth.{solution_cost_of}
 use Rattle.model.specs.Graph.{Graph, forward, absent}
-use Rattle.model.specs.Search.{blank, with_entry}
+use Rattle.model.specs.Search.{blank, with_entry, as_best}
 use Rattle.model.specs.Calls.{opened, initialize}
 use Rattle.layout.specs.Read.{read_cache}
 use Rattle.layout.specs.Sound.{sound_wordsb}
@@ -78,13 +76,13 @@ stepped-once = let r = initialize (opened forward line3 1) (0 ∷ []) (1 ∷ [])
 strange : Search
 strange =
     record {
-      trees = record { tree = 0; last_known_closed_len = Len 2; solution = Unsolved }
-          ∷ record { tree = 0; last_known_closed_len = Len 2; solution = At 1 }
+      trees = record { tree = 0; last_known_closed_len = Some 2; solution = None }
+          ∷ record { tree = 0; last_known_closed_len = Some 2; solution = Some 1 }
           ∷ replicate 62 blank;
       tree_count = 2;
       goal_keys = 1 ∷ replicate 63 0;
       goal_count = 1;
-      best_solution = Best 0 1;
+      best_solution = as_best 0 1;
       exhausted = false;
     }
 

@@ -1,9 +1,11 @@
 -- A refused call of `plan` has changed nothing, and it is refused by 7, 4, 3 and 6 alone: once its search was opened it answers.
 -- Assumes nothing.
 use mathlib.Core.Path.{◌≡◌, refl, sym, ap, ◌∙◌, subst}
+use Rattle.std.proofs.lemmas.Option.{none-some}
+use Rattle.std.specs.declared.option.Option.{Option}
+use Rattle.std.specs.Prelude.{None, Some, Err}
 use mathlib.Core.Bool.{Bool, true, false}
 use mathlib.Core.List.{List, [], ◌∷◌}
-use mathlib.Core.Option.{Option, none, some, none-ne-some}
 use Prim.Native.Nat.{ℕ}
 use Rattle.model.specs.declared.Planned.{Planned}
 use Rattle.model.specs.declared.Refusal.{Refusal}
@@ -28,17 +30,17 @@ abbrev EveryMay : List Fault → Type 0
 EveryMay [] = Unit {0}
 EveryMay (f ∷ fs) = May f.number × EveryMay fs
 
-or-may : (b : Bool) (m : ℕ) (o : Option ℕ) (n : ℕ) → May m → (o ≡ some n → May n) → or_else b m o ≡ some n → May n
+or-may : (b : Bool) (m : ℕ) (o : Option ℕ) (n : ℕ) → May m → (o ≡ Some n → May n) → or_else b m o ≡ Some n → May n
 or-may true m o n h rest e = let z : m ≡ n = cc in subst May z h
 or-may false m o n h rest e = rest e
 
-first-may : (fs : List Fault) → EveryMay fs → (n : ℕ) → first_fault fs ≡ some n → May n
-first-may [] h n e = absurd (none-ne-some n e)
+first-may : (fs : List Fault) → EveryMay fs → (n : ℕ) → first_fault fs ≡ Some n → May n
+first-may [] h n e = absurd (none-some n e)
 first-may (f ∷ fs) h n e = or-may f.given f.number (first_fault fs) n h.0 (λ z. first-may fs h.1 n z) e
 
-fault-is : (o : Option ℕ) (c : Cache) (ss gs : List ℕ) (n line : ℕ) → (initialize_by o c ss gs).reply ≡ refused n line → o ≡ some n
-fault-is none c ss gs n line e = absurd (answered-refused tt n line e)
-fault-is (some m) c ss gs n line e = let z : m ≡ n = cc in ap some z
+fault-is : (o : Option ℕ) (c : Cache) (ss gs : List ℕ) (n line : ℕ) → (initialize_by o c ss gs).reply ≡ refused n line → o ≡ Some n
+fault-is None c ss gs n line e = absurd (answered-refused tt n line e)
+fault-is (Some m) c ss gs n line e = let z : m ≡ n = cc in ap Some z
 
 opening-may : (b : Bool) (c : Cache) (ss gs : List ℕ) (n line : ℕ) → (initialize_if b c ss gs).reply ≡ refused n line → May n
 unfolding initialize
@@ -47,16 +49,14 @@ opening-may false c ss gs n line e = let z : 7 ≡ n = cc in subst May z tt
 
 -- ---- the whole
 
-module _ (ws ss gs p : List ℕ) (f : Refusal) (line : ℕ) where
-  refused-leaves : {r : Planned} {left q : List ℕ} → CallsMade ws ss gs p r left q → step_reply r.answer ≡ refused (number f) line
-      → (left ≡ ws) × (q ≡ p) × (r.search ≡ empty_search) × (r.has_path ≡ false) × (r.waits ≡ 0) × (r.tickets ≡ 0) × (line ≡ 0) × MayRefuse f
-  refused-leaves (not_opened {left = left} o g l i e) told =
-      let k = (calls.demand-1).0 ws ss gs o left i g l e in
-      let lines : l ≡ line = cc in
+module _ (ws ss gs p : List ℕ) (f : Refusal) where
+  refused-leaves : {r : Planned} {left q : List ℕ} → CallsMade ws ss gs p r left q → step_reply r.answer ≡ refused (number f) 0
+      → (left ≡ ws) × (q ≡ p) × (r.search ≡ empty_search) × (r.has_path ≡ false) × (r.waits ≡ 0) × (r.tickets ≡ 0) × MayRefuse f
+  refused-leaves (not_opened {left = left} g i) told =
       let same : number g ≡ number f = cc in
-      let may : May (number g) = opening-may (sound_wordsb ws) (read_cache ws) ss gs (number g) l (refused-is ws ss gs p i e) in
-      (k.0, refl, k.1.0, refl, refl, refl, sym lines ∙ k.1.1, subst MayRefuse (refusal_is f) (subst May same may))
-  refused-leaves (to_the_end o e t i a s k) told = absurd (answered-refused _ (number f) line (sym (end-told ws ss gs p i a s) ∙ told))
+      let may : May (number g) = opening-may (sound_wordsb ws) (read_cache ws) ss gs (number g) 0 (refused-is ws ss gs p i) in
+      ((calls.demand-1).0 ws ss gs (Err g) left i g refl, refl, refl, refl, refl, refl, subst MayRefuse (refusal_is f) (subst May same may))
+  refused-leaves (to_the_end x e t i s k) told = absurd (answered-refused _ (number f) 0 (sym (end-told ws ss gs p i s) ∙ told))
 
 pub demand-1 : Demand1
-demand-1 ws ss gs p r left q k f line e = refused-leaves ws ss gs p f line k.called (ap step_reply e)
+demand-1 ws ss gs p r left q k f e = refused-leaves ws ss gs p f k.called (ap step_reply e)

@@ -32,10 +32,10 @@ module _ (ws ss gs p : List ℕ) where
     as_stepped : (e : StepsTaken) → (initialize_words ws ss gs).reply ≡ answered tt → Solving mid s max_steps e left → Left left
 
   words_left : {r : Planned} {left q : List ℕ} → CallsMade ws ss gs p r left q → Left left
-  words_left (not_opened o f line i e) = as_opened (number f) line (refused-is ws ss gs p i e) i.words
-  words_left (to_the_end {left = left} o e t i a x k) =
-      as_stepped e (accepted-is ws ss gs p i a)
-      (subst (λ (y : Search). Solving mid y max_steps e left) i.search (subst (λ (l : List ℕ). Solving l o.search max_steps e left) i.words x))
+  words_left (not_opened f i) = as_opened (number f) 0 (refused-is ws ss gs p i) i.words
+  words_left (to_the_end {left = left} y e t i x k) =
+      as_stepped e (accepted-is ws ss gs p i)
+      (subst (λ (z : Search). Solving mid z max_steps e left) i.search (subst (λ (l : List ℕ). Solving l y max_steps e left) i.words x))
 
   same-but : {left left' : List ℕ} → Left left → Left left' → SameBut mid s left left'
   same-but (as_opened n line e x) (as_opened m l f y) = record {

@@ -1,27 +1,24 @@
 -- A whole search: the three calls one after the other meet its promise, and the code of `plan` makes them.
 -- Assumes nothing.
 use mathlib.Core.Path.{◌≡◌, refl, sym, ap, ap₂, ◌∙◌, subst}
+use Rattle.model.specs.Search.{empty_search}
+use Rattle.std.specs.declared.result.Result.{Result}
+use Rattle.std.specs.Prelude.{Err, Ok, None, is_ok}
 use mathlib.Core.Bool.{Bool, true, false}
 use mathlib.Core.List.{List}
 use Prim.Native.Nat.{ℕ}
-use Rattle.model.specs.declared.InitializeAnswer.{InitializeAnswer}
-use Rattle.model.specs.declared.InitializeAnswer.TheVariants as initializing
 use Rattle.model.specs.declared.Planned.{Planned}
 use Rattle.model.specs.declared.Refusal.{Refusal}
 use Rattle.model.specs.declared.Refusal.TheVariants.{Unsound}
-use Rattle.model.specs.declared.RetraceAnswer.{RetraceAnswer}
 use Rattle.model.specs.declared.Search.{Search}
-use Rattle.model.specs.declared.SearchOpened.{SearchOpened}
-use Rattle.model.specs.declared.StepAnswer.TheVariants as stepping
 use Rattle.model.specs.declared.StepsTaken.{StepsTaken}
-use Rattle.model.specs.Answers.{Reply, answered, refused, is_answered, number, initialize_reply, retrace_reply}
+use Rattle.model.specs.Answers.{Reply, answered, refused, is_answered, number, retrace_reply}
 use Rattle.model.specs.Calls.{Cache, AfterInitialize, AfterRetrace, retrace}
 use Rattle.model.specs.Solve.{AfterSteps, solve, max_steps}
 use Rattle.model.specs.Plan.{AfterPlan, plan_from}
 use Rattle.model.proofs.Replies.{answered-refused}
 use Rattle.layout.specs.Read.{read_cache}
 use Rattle.layout.specs.Sound.{sound_wordsb}
-use Rattle.memory.specs.declared.Shown.TheVariants as shown
 use Rattle.unchecked.specs.declared.SearchRun.{SearchRun}
 use Rattle.unchecked.specs.Shown.{Shows}
 use Rattle.unchecked.specs.Retrace.{retrace_shown, RetracesShown}
@@ -54,20 +51,13 @@ module _ (ws ss gs p : List ℕ) where
 
   -- ---- the opening
 
-  module _ {o : SearchOpened} {mid : List ℕ} (i : Initializing ws ss gs o mid) where
-    pub refused-is : {f : Refusal} {line : ℕ} → o.answer ≡ initializing.Refused f line → opens.reply ≡ refused (number f) line
-    refused-is e = sym i.answer ∙ ap initialize_reply e
+  module _ {f : Refusal} {mid : List ℕ} (i : Initializing ws ss gs (Err f) mid) where
+    pub refused-is : opens.reply ≡ refused (number f) 0
+    refused-is = sym i.answer
 
-    pub accepted-is : o.answer ≡ initializing.Initialized → opens.reply ≡ answered tt
-    accepted-is e = sym i.answer ∙ ap initialize_reply e
-
-    pub accepted-sound : o.answer ≡ initializing.Initialized → sound_wordsb ws ≡ true
-    accepted-sound e = sound-if (sound_wordsb ws) (read_cache ws) ss gs (accepted-is e)
-
-    not-planned : (f : Refusal) (line : ℕ) → o.answer ≡ initializing.Refused f line
-        → Planning ws ss gs p (record { answer = stepping.Refused f line; has_path = false; waits = 0; tickets = 0; search = o.search }) mid p
-    not-planned f line e =
-        let is = plan-is (refused-is e) in
+    not-planned : Planning ws ss gs p (not_planned f) mid p
+    not-planned =
+        let is = plan-is refused-is in
         record {
           answer = sym (ap (λ (y : AfterPlan). y.reply) is);
           has-path = sym (ap (λ (y : AfterPlan). y.has_path) is);
@@ -77,19 +67,26 @@ module _ (ws ss gs p : List ℕ) where
           path = sym (ap (λ (y : AfterPlan). y.path) is);
           cache = i.cache ∙ sym (ap (λ (y : AfterPlan). y.cache) is);
           sound = i.sound;
-          called = not_opened o f line i e;
+          called = not_opened f i;
         }
 
-    -- ---- the steps, and the path
+  -- ---- the steps, and the path
 
-    module _ (a : o.answer ≡ initializing.Initialized) {e : StepsTaken} {left : List ℕ} (s : Solving mid o.search max_steps e left) where
+  module _ {x : Search} {mid : List ℕ} (i : Initializing ws ss gs (Ok x) mid) where
+    pub accepted-is : opens.reply ≡ answered tt
+    accepted-is = sym i.answer
+
+    pub accepted-sound : sound_wordsb ws ≡ true
+    accepted-sound = sound-if (sound_wordsb ws) (read_cache ws) ss gs accepted-is
+
+    module _ {e : StepsTaken} {left : List ℕ} (s : Solving mid x max_steps e left) where
       abbrev pub end : AfterSteps
       end = solve max_steps opens.cache opens.search
 
-      pub end_is : solve_words mid o.search max_steps ≡ end
+      pub end_is : solve_words mid x max_steps ≡ end
       end_is =
-          ap (λ (b : Bool). solve_if b max_steps (read_cache mid) o.search) (i.sound ∙ accepted-sound a)
-          ∙ ap₂ (λ (c : Cache) (x : Search). solve max_steps c x) i.cache i.search
+          ap (λ (b : Bool). solve_if b max_steps (read_cache mid) x) (i.sound ∙ accepted-sound)
+          ∙ ap₂ (λ (c : Cache) (y : Search). solve max_steps c y) i.cache i.search
 
       end-cache : read_cache left ≡ end.cache
       end-cache = s.cache ∙ ap (λ (y : AfterSteps). y.cache) end_is
@@ -98,12 +95,12 @@ module _ (ws ss gs p : List ℕ) where
       end-search = s.search ∙ ap (λ (y : AfterSteps). y.search) end_is
 
       pub path-is : retrace_words left e.search p ≡ retrace end.cache end.search p
-      path-is = retrace-is left (s.sound ∙ i.sound ∙ accepted-sound a) e.search p ∙ ap₂ (λ (c : Cache) (x : Search). retrace c x p) end-cache end-search
+      path-is = retrace-is left (s.sound ∙ i.sound ∙ accepted-sound) e.search p ∙ ap₂ (λ (c : Cache) (y : Search). retrace c y p) end-cache end-search
 
-      pub planned : (t : RetraceAnswer) {q : List ℕ} → Retracing left e.search p t q
+      pub planned : (t : Result ℕ Refusal) {q : List ℕ} → Retracing left e.search p t q
           → Planning ws ss gs p (record { answer = e.answer; has_path = is_answered (retrace_reply t); waits = e.waits; tickets = e.tickets; search = e.search }) left q
       planned t {q} k =
-          let is = plan-is (accepted-is a) in
+          let is = plan-is accepted-is in
           let shows : after_retrace t q ≡ retrace end.cache end.search p = k ∙ path-is in
           record {
             answer = s.answer ∙ ap (λ (y : AfterSteps). y.reply) end_is ∙ sym (ap (λ (y : AfterPlan). y.reply) is);
@@ -114,55 +111,58 @@ module _ (ws ss gs p : List ℕ) where
             path = ap (λ (y : AfterRetrace). y.path) shows ∙ sym (ap (λ (y : AfterPlan). y.path) is);
             cache = end-cache ∙ sym (ap (λ (y : AfterPlan). y.cache) is);
             sound = s.sound ∙ i.sound;
-            called = to_the_end o e t i a s k;
+            called = to_the_end x e t i s k;
           }
 
 pub calls-plan : CallsPlan
-calls-plan ws ss gs p r left q (not_opened o f line i e) = not-planned ws ss gs p i f line e
-calls-plan ws ss gs p r left q (to_the_end o e t i a s k) = planned ws ss gs p i a s t k
+calls-plan ws ss gs p r left q (not_opened f i) = not-planned ws ss gs p i
+calls-plan ws ss gs p r left q (to_the_end x e t i s k) = planned ws ss gs p i s t k
 
 -- ---- the code
 
 pub not_sound : (ws ss gs p : List ℕ) → sound_wordsb ws ≡ false → {r : Planned} → r ≡ not_planned Unsound → Planning ws ss gs p r ws p
 not_sound ws ss gs p e {r} is =
-    subst (λ (x : Planned). Planning ws ss gs p x ws p) (sym is) (not-planned ws ss gs p (opening.not_sound ws ss gs e) Unsound 0 refl)
+    subst (λ (x : Planned). Planning ws ss gs p x ws p) (sym is) (not-planned ws ss gs p (opening.not_sound ws ss gs e))
+
+answered-ok : (t : Result ℕ Refusal) → is_ok t ≡ is_answered (retrace_reply t)
+answered-ok (Ok n) = refl
+answered-ok (Err f) = refl
 
 -- the node of a run can be shown
 pub run-shows : {ws ss gs : List ℕ} {r : SearchRun} {left : List ℕ} → Runs ws ss gs r left → Shows left r.shown
-run-shows {ws} {ss} {gs} {r} {left} h = go h.opened.answer h.after
+run-shows {ws} {ss} {gs} {r} {left} h = go h.opened h.after
   where
-    go : (a : InitializeAnswer) → RunsAfter a h.mid h.opened.search r left → Shows left r.shown
-    go (initializing.Refused f line) k = subst (λ (y : SearchRun). Shows left y.shown) (sym k.0) tt
-    go initializing.Initialized k = k.shows
+    go : (a : Result Search Refusal) → RunsAfter a h.mid r left → Shows left r.shown
+    go (Err f) k = subst (λ (y : SearchRun). Shows left y.shown) (sym k.0) tt
+    go (Ok s) k = k.shows
 
 module _ (ws ss gs p : List ℕ) (ok : sound_wordsb ws ≡ true) {r : SearchRun} {left : List ℕ} (h : Runs ws ss gs r left)
-    (t : RetraceAnswer) {q : List ℕ} (k : RetracesShown left r.shown p t q) where
+    (t : Result ℕ Refusal) {q : List ℕ} (k : RetracesShown left r.shown p t q) where
   abbrev Meets : SearchRun → Bool → List ℕ → List ℕ → Type 0
   Meets x b l z = Planning ws ss gs p (record { answer = x.answer; has_path = b; waits = x.waits; tickets = x.tickets; search = x.search }) l z
 
-  opened : Initializing ws ss gs h.opened h.mid
-  opened = opening.on-sound ws ss gs ok h.opened h.mid h.opens
+  opened : {a : Result Search Refusal} → h.opened ≡ a → Initializing ws ss gs a h.mid
+  opened e = subst (λ (a : Result Search Refusal). Initializing ws ss gs a h.mid) e (opening.on-sound ws ss gs ok h.opened h.mid h.opens)
 
-  refused-run : (f : Refusal) (line : ℕ) → h.opened.answer ≡ initializing.Refused f line → RunsAfter (initializing.Refused f line) h.mid h.opened.search r left
-      → Meets r (is_answered (retrace_reply t)) left q
-  refused-run f line e x =
+  refused-run : (f : Refusal) → h.opened ≡ Err f → RunsAfter (Err f) h.mid r left → Meets r (is_answered (retrace_reply t)) left q
+  refused-run f e x =
       let shows : after_retrace t q ≡ record { reply = refused 9 0; path = p } = k ∙ ap (λ (y : SearchRun). retrace_shown left y.shown p) x.0 in
-      let m0 : Meets (record { answer = stepping.Refused f line; waits = 0; tickets = 0; shown = shown.Nothing; search = h.opened.search }) false h.mid p =
-      not-planned ws ss gs p opened f line e in
+      let m0 : Meets (record { answer = Err f; waits = 0; tickets = 0; shown = None; search = empty_search }) false h.mid p = not-planned ws ss gs p (opened e) in
       let m1 = subst (λ (y : SearchRun). Meets y false h.mid p) (sym x.0) m0 in
       let m2 = subst (λ (b : Bool). Meets r b h.mid p) (sym (ap (λ (y : AfterRetrace). is_answered y.reply) shows)) m1 in
       let m3 = subst (λ (l : List ℕ). Meets r (is_answered (retrace_reply t)) l p) (sym x.1) m2 in
       subst (λ (z : List ℕ). Meets r (is_answered (retrace_reply t)) left z) (sym (ap (λ (y : AfterRetrace). y.path) shows)) m3
 
-  ended-run : h.opened.answer ≡ initializing.Initialized → RunsToEnd h.mid h.opened.search r left → Meets r (is_answered (retrace_reply t)) left q
-  ended-run e x =
-      let sound : sound_wordsb h.mid ≡ true = opened.sound ∙ ok in
-      let s : Solving h.mid h.opened.search max_steps (steps_of r) left = on-sound h.mid h.opened.search sound max_steps (steps_of r) left x.solves in
-      planned ws ss gs p opened e s t (retracing.on-sound left r.search p (s.sound ∙ sound) t q (k ∙ sym (x.retraces p)))
+  ended-run : (y : Search) → h.opened ≡ Ok y → RunsToEnd h.mid y r left → Meets r (is_answered (retrace_reply t)) left q
+  ended-run y e x =
+      let i = opened e in
+      let sound : sound_wordsb h.mid ≡ true = i.sound ∙ ok in
+      let s : Solving h.mid y max_steps (steps_of r) left = on-sound h.mid y sound max_steps (steps_of r) left x.solves in
+      planned ws ss gs p i s t (retracing.on-sound left r.search p (s.sound ∙ sound) t q (k ∙ sym (x.retraces p)))
 
-  pub has-run : {b : Bool} → b ≡ is_answered (retrace_reply t) → Meets r b left q
-  has-run e = subst (λ (b : Bool). Meets r b left q) (sym e) (go h.opened.answer refl h.after)
+  pub has-run : {b : Bool} → b ≡ is_ok t → Meets r b left q
+  has-run e = subst (λ (b : Bool). Meets r b left q) (sym (e ∙ answered-ok t)) (go h.opened refl h.after)
     where
-      go : (a : InitializeAnswer) → h.opened.answer ≡ a → RunsAfter a h.mid h.opened.search r left → Meets r (is_answered (retrace_reply t)) left q
-      go (initializing.Refused f line) e x = refused-run f line e x
-      go initializing.Initialized e x = ended-run e x
+      go : (a : Result Search Refusal) → h.opened ≡ a → RunsAfter a h.mid r left → Meets r (is_answered (retrace_reply t)) left q
+      go (Err f) e x = refused-run f e x
+      go (Ok y) e x = ended-run y e x

@@ -1,12 +1,12 @@
 -- `solve` is refused where the words are not sound, and on sound words what it promises there; and so many calls of `step` meet its promise.
 -- Assumes nothing.
 use mathlib.Core.Path.{◌≡◌, refl, sym, ap, ap₂, ◌∙◌, subst}
+use Rattle.std.specs.Prelude.{Err}
 use mathlib.Core.Bool.{Bool, true, false, true≢false}
 use mathlib.Core.List.{List}
 use Prim.Native.Nat.{ℕ}
 use native.Mathlib.Omega.{arith}
 use Rattle.model.specs.declared.Refusal.TheVariants.{Unsound}
-use Rattle.model.specs.declared.StepAnswer.TheVariants as stepping
 use Rattle.model.specs.declared.Search.{Search}
 use Rattle.model.specs.declared.Stepped.{Stepped}
 use Rattle.model.specs.declared.StepsTaken.{StepsTaken}
@@ -89,9 +89,9 @@ module _ {ws : List ℕ} {s : Search} {n : ℕ} (unsound : sound_wordsb ws ≡ f
         called = called;
       }
 
-  pub not_sound : Solving ws s n (record { answer = stepping.Refused Unsound 0; waits = 0; tickets = 0; search = s }) ws
+  pub not_sound : Solving ws s n (record { answer = Err Unsound; waits = 0; tickets = 0; search = s }) ws
   not_sound =
-      unsolved (one_ends (not_stepped s Unsound) (stepping.Refused Unsound 0) (omega arith) at_first (step-not-sound ws s unsound) refl refl) refl refl refl refl refl
+      unsolved (one_ends (not_stepped s Unsound) (Err Unsound) (omega arith) at_first (step-not-sound ws s unsound) refl refl) refl refl refl refl refl
 
   refused-solves : {r : StepsTaken} {left : List ℕ} → StepsCalled ws s n r left → Solving ws s n r left
   refused-solves (all_wait v z) =

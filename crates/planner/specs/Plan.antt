@@ -1,14 +1,12 @@
 -- A whole search by one call: what `plan` promises. It is what `initialize`, steps to the end by `solve` and `retrace` give, one after the
 -- other, by equations with a definition that makes them on the cache that the words hold, and by the calls themselves.
 -- Assumes nothing.
-use Rattle.std.specs.Prelude.{◌≡◌, Bool, true, false, List, ℕ, ◌+◌, ◌*◌, ◌≤◌, leb, length}
-use Rattle.model.specs.declared.InitializeAnswer.TheVariants as initializing
+use Rattle.std.specs.Prelude.{◌≡◌, Bool, true, false, List, ℕ, ◌+◌, ◌*◌, ◌≤◌, leb, length, Err, Ok}
+use Rattle.model.specs.declared.Search.{Search}
+use Rattle.std.specs.declared.result.Result.{Result}
 use Rattle.model.specs.declared.Planned.{Planned}
 use Rattle.model.specs.declared.Refusal.{Refusal}
 use Rattle.model.specs.declared.Refusal.TheVariants.{Malformed, OutOfOrder, NoSuchVertex, OverLimit, ShortCache, TreesFull, Unsound, InvalidSearch, NotSolved, ShortPath}
-use Rattle.model.specs.declared.RetraceAnswer.{RetraceAnswer}
-use Rattle.model.specs.declared.SearchOpened.{SearchOpened}
-use Rattle.model.specs.declared.StepAnswer.TheVariants as stepping
 use Rattle.model.specs.declared.StepsTaken.{StepsTaken}
 use Rattle.model.specs.Answers.{answered, refused, is_answered, solved, no_path, step_reply, retrace_reply}
 use Rattle.model.specs.Search.{empty_search, roots_of}
@@ -36,12 +34,15 @@ plan_words ws ss gs p = plan_if (sound_wordsb ws) (read_cache ws) ss gs p
 
 -- ---- the three calls, on the words: each is known by nothing but its promise
 
+-- a search that was not opened: no path, no steps, the empty record
+abbrev pub not_planned : Refusal → Planned
+not_planned f = record { answer = Err f; has_path = false; waits = 0; tickets = 0; search = empty_search }
+
 -- the opening is refused, and nothing more is called; or it is accepted, the search is stepped to its end, and its path retraced
 pub data CallsMade (ws ss gs p : List ℕ) : Planned → List ℕ → List ℕ → Type 0 where
-  not_opened : {left : List ℕ} (o : SearchOpened) (f : Refusal) (line : ℕ) → Initializing ws ss gs o left → o.answer ≡ initializing.Refused f line
-      → CallsMade ws ss gs p (record { answer = stepping.Refused f line; has_path = false; waits = 0; tickets = 0; search = o.search }) left p
-  to_the_end : {mid left q : List ℕ} (o : SearchOpened) (e : StepsTaken) (t : RetraceAnswer) → Initializing ws ss gs o mid
-      → o.answer ≡ initializing.Initialized → Solving mid o.search max_steps e left → Retracing left e.search p t q
+  not_opened : {left : List ℕ} (f : Refusal) → Initializing ws ss gs (Err f) left → CallsMade ws ss gs p (not_planned f) left p
+  to_the_end : {mid left q : List ℕ} (s : Search) (e : StepsTaken) (t : Result ℕ Refusal) → Initializing ws ss gs (Ok s) mid
+      → Solving mid s max_steps e left → Retracing left e.search p t q
       → CallsMade ws ss gs p (record { answer = e.answer; has_path = is_answered (retrace_reply t); waits = e.waits; tickets = e.tickets; search = e.search }) left q
 
 -- ---- the promise
@@ -59,10 +60,6 @@ pub record Planning (ws ss gs p : List ℕ) (r : Planned) (left q : List ℕ) : 
   pub sound : sound_wordsb left ≡ sound_wordsb ws
   pub called : CallsMade ws ss gs p r left q
 
--- a search that was not opened: no path, no steps, the empty record
-abbrev pub not_planned : Refusal → Planned
-not_planned f = record { answer = stepping.Refused f 0; has_path = false; waits = 0; tickets = 0; search = empty_search }
-
 -- ---- Demand 1: "It is refused by 7, 4, 3 and 6 alone, and then nothing has changed"
 
 -- 7 Unsound, 4 OverLimit, 3 NoSuchVertex, 6 TreesFull
@@ -78,12 +75,12 @@ MayRefuse InvalidSearch = ⊥
 MayRefuse NotSolved = ⊥
 MayRefuse ShortPath = ⊥
 
--- words and slice as they were, the empty record, no path, no steps; "0 where no chart line is at fault"
+-- words and slice as they were, the empty record, no path, no steps
 abbrev pub Demand1 : Type 0
 Demand1 =
     (ws ss gs p : List ℕ) (r : Planned) (left q : List ℕ) → Planning ws ss gs p r left q
-    → (f : Refusal) (line : ℕ) → r.answer ≡ stepping.Refused f line
-    → (left ≡ ws) × (q ≡ p) × (r.search ≡ empty_search) × (r.has_path ≡ false) × (r.waits ≡ 0) × (r.tickets ≡ 0) × (line ≡ 0) × MayRefuse f
+    → (f : Refusal) → r.answer ≡ Err f
+    → (left ≡ ws) × (q ≡ p) × (r.search ≡ empty_search) × (r.has_path ≡ false) × (r.waits ≡ 0) × (r.tickets ≡ 0) × MayRefuse f
 
 -- ---- what follows from the promise
 
@@ -104,14 +101,14 @@ HasPath =
 abbrev pub Retraced : Type 0
 Retraced =
     (ws ss gs p : List ℕ) (r : Planned) (left q : List ℕ) → Planning ws ss gs p r left q → is_answered (step_reply r.answer) ≡ true
-    → (t : RetraceAnswer) × (Retracing left r.search p t q × (r.has_path ≡ is_answered (retrace_reply t)))
+    → (t : Result ℕ Refusal) × (Retracing left r.search p t q × (r.has_path ≡ is_answered (retrace_reply t)))
 
 -- "hands back the record for a `retrace`": of a solved search, one with that record on the words left and a slice that has room answers
 -- the moves
 abbrev pub RetracesLater : Type 0
 RetracesLater =
     (ws ss gs p : List ℕ) (r : Planned) (left q : List ℕ) → Planning ws ss gs p r left q → (k m : ℕ) → step_reply r.answer ≡ answered (solved k m)
-    → (p' : List ℕ) (t : RetraceAnswer) (q' : List ℕ) → Retracing left r.search p' t q' → 1 + 2 * m ≤ length p' → retrace_reply t ≡ answered m
+    → (p' : List ℕ) (t : Result ℕ Refusal) (q' : List ℕ) → Retracing left r.search p' t q' → 1 + 2 * m ≤ length p' → retrace_reply t ≡ answered m
 
 -- "what the three calls one after the other give": they meet it
 abbrev pub CallsPlan : Type 0
@@ -132,8 +129,8 @@ Determined =
 
 -- what it is as one call on the words: the three
 abbrev pub planning_call : {ws ss gs p : List ℕ} {r : Planned} {left q : List ℕ} → CallsMade ws ss gs p r left q → Call
-planning_call {ws} {ss} {gs} (not_opened o f line i a) = initializingCall ss gs
-planning_call {ws} {ss} {gs} {p} (to_the_end o e t i a s k) = both (initializingCall ss gs) (both (solving_call s.called) (retracingCall e.search p))
+planning_call {ws} {ss} {gs} (not_opened f i) = initializingCall ss gs
+planning_call {ws} {ss} {gs} {p} (to_the_end x e t i s k) = both (initializingCall ss gs) (both (solving_call s.called) (retracingCall e.search p))
 
 -- what its steps came to
 abbrev pub steps_in : Planned → StepsTaken

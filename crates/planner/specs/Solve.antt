@@ -1,9 +1,8 @@
 -- Many steps at once: what `solve` promises. It is that of so many calls of `step` one after the other, by equations with a definition that
 -- makes them on the cache that the words hold, and by the calls themselves.
 -- Assumes nothing.
-use Rattle.std.specs.Prelude.{◌≡◌, Bool, true, false, List, [], ◌∷◌, ◌++◌, ℕ, length, replicate}
+use Rattle.std.specs.Prelude.{◌≡◌, Bool, true, false, List, [], ◌∷◌, ◌++◌, ℕ, length, replicate, Err}
 use Rattle.model.specs.declared.Refusal.{Refusal}
-use Rattle.model.specs.declared.StepAnswer.TheVariants as stepping
 use Rattle.model.specs.declared.Search.{Search}
 use Rattle.model.specs.declared.StepsTaken.{StepsTaken}
 use Rattle.model.specs.Answers.{answered, refused, waiting, step_reply}
@@ -52,8 +51,7 @@ pub record Solving (ws : List ℕ) (s : Search) (n : ℕ) (r : StepsTaken) (left
 abbrev pub Demand1 : Type 0
 Demand1 =
     (ws : List ℕ) (s : Search) (n : ℕ) (r : StepsTaken) (left : List ℕ) → Solving ws s n r left
-    → (f : Refusal) (line : ℕ) → r.answer ≡ stepping.Refused f line
-    → (left ≡ ws) × ((r.search ≡ s) × ((r.waits ≡ 0) × ((r.tickets ≡ 0) × (line ≡ 0))))
+    → (f : Refusal) → r.answer ≡ Err f → (left ≡ ws) × ((r.search ≡ s) × ((r.waits ≡ 0) × (r.tickets ≡ 0)))
 
 -- ---- what follows from the promise
 

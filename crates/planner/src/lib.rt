@@ -3,11 +3,10 @@
 #![tactic(auto)]
 
 ghost use Rattle.std.specs.Prelude.{◌≡◌};
-ghost use Rattle.model.specs.Answers.{is_answered, retrace_reply};
 ghost use Rattle.planner.specs.Solve.{Solving};
 ghost use Rattle.planner.specs.Plan.{Planning, not_planned};
 
-use model::{Planned, Refusal, RetraceAnswer, Search, StepAnswer, StepsTaken};
+use model::{Planned, Refusal, Search, StepsTaken};
 
 // One step more than a search of 64 trees and 2,048 edges waits: 1 + 64 × (1 + 2,048) waits, and then its answer.
 pub const MAX_STEPS: u32 = 131138;
@@ -20,10 +19,7 @@ pub fn solve(words: &mut [u32], search: Search, steps: u32) -> StepsTaken
 {
     if !sound::is_sound(words) {
         return StepsTaken {
-            answer: StepAnswer::Refused {
-                refusal: Refusal::Unsound,
-                line: 0,
-            },
+            answer: Err(Refusal::Unsound),
             waits: 0,
             tickets: 0,
             search,
@@ -42,16 +38,13 @@ pub fn plan(words: &mut [u32], starts: &[u32], goals: &[u32], path: &mut [u32]) 
         return not_planned(Refusal::Unsound);
     }
     let run = unchecked::run_search(words, starts, goals);
-    let shown = run.shown;
-    let retraced = unchecked::shown::retrace_shown(words, shown, path);
-    let answer = run.answer;
-    let search = run.search;
+    let retraced = unchecked::shown::retrace_shown(words, run.shown, path);
     Planned {
-        answer,
-        has_path: has_moves(retraced),
+        answer: run.answer,
+        has_path: retraced.is_ok(),
         waits: run.waits,
         tickets: run.tickets,
-        search,
+        search: run.search,
     }
 }
 
@@ -59,23 +52,10 @@ fn not_planned(refusal: Refusal) -> Planned
     ensures { result ≡ not_planned refusal }
 {
     Planned {
-        answer: StepAnswer::Refused { refusal, line: 0 },
+        answer: Err(refusal),
         has_path: false,
         waits: 0,
         tickets: 0,
         search: Search::empty(),
-    }
-}
-
-// Whether a path was written.
-fn has_moves(answer: RetraceAnswer) -> bool
-    ensures { result ≡ is_answered (retrace_reply answer) }
-{
-    match answer {
-        RetraceAnswer::Moves(_) => true,
-        RetraceAnswer::Refused {
-            refusal: _,
-            line: _,
-        } => false,
     }
 }

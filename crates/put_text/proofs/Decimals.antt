@@ -7,8 +7,8 @@ use Prim.Native.Nat.{ℕ, zero, suc, ◌+◌, ◌-◌, ◌/◌, ◌%◌, ◌^◌
 use native.Mathlib.Omega.{arith}
 use borrow.Author.Tests.{lt-ltb, le-ltb}
 use lib.Dec.{ltb}
-use lib.ListN.{length, set, take, drop, replicate, length-append, length-drop, length-set}
-use lib.Seq.{take_all, drop-cons, drop-set-lt, get_or-set_same}
+use lib.ListN.{length, set, drop, replicate, length-append, length-set}
+use lib.Seq.{drop-cons, drop-set-lt, get_or-set_same}
 use Rattle.text.specs.Print.{decimal, decimal_in, digits_by}
 
 decimal-in-length : (k n : ℕ) → length (decimal_in k n) ≤ k
@@ -68,7 +68,3 @@ module _ (n left : ℕ) (bytes : List ℕ) where
   pub left_end : (from : ℕ) → left < 10 → Left n left from bytes → drop from (set bytes from (48 + left)) ≡ decimal n
   unfolding decimal_in
   left_end from h s = drop-set bytes from (48 + left) (omega (arith, s.inside, s.room)) ∙ sym (s.same ∙ rw (lt-ltb left 10 h))
-
--- the bytes from there on, as `&bytes[from..]` has them
-pub part-of-ten : (bytes : List ℕ) (from : ℕ) → length bytes ≡ 10 → take (10 - from) (drop from bytes) ≡ drop from bytes
-part-of-ten bytes from e = take_all (10 - from) (drop from bytes) (omega (arith, length-drop from bytes))

@@ -1,13 +1,12 @@
 -- Texts put one behind the other: a line is a chain of them.
 -- Assumes nothing.
 use mathlib.Core.Path.{◌≡◌, sym, ap, ap₂, ◌∙◌}
-use mathlib.Core.List.{List, [], ◌∷◌, ◌++◌, append_assoc}
-use Prim.Native.Nat.{ℕ, ◌+◌, ◌<◌, ◌≤◌}
+use mathlib.Core.List.{List, [], ◌++◌, append_assoc}
+use Prim.Native.Nat.{ℕ, ◌+◌, ◌≤◌}
 use native.Mathlib.Nat.{add-zero}
-use native.Mathlib.Numerals.{add-one}
 use native.Mathlib.Omega.{arith}
-use lib.ListN.{length, get_or, set, take, drop, length-append, take-append-drop}
-use lib.Seq.{length-take-le, take-suc, take_all, take_at, drop_at, drop-drop, set_split}
+use lib.ListN.{length, take, drop, length-append, take-append-drop}
+use lib.Seq.{length-take-le, take_at, drop_at, drop-drop}
 use Rattle.put_text.specs.Puts.{puts, Puts}
 
 -- what stands before the end of a text x that is put, and behind it
@@ -47,22 +46,3 @@ puts_then {out} {mid} {left} {x} {y} {a} {m} {r} h p q =
 
 pub puts_none : (out : List ℕ) (a : ℕ) → Puts out a [] a out
 puts_none out a = record { end = sym (add-zero a); bytes = sym (rw (add-zero a) (take-append-drop a out)) }
-
-pub puts-byte : (out : List ℕ) (a b : ℕ) → a < length out → Puts out a (b ∷ []) (a + 1) (set out a b)
-puts-byte out a b h = record { end = omega arith; bytes = set_split out a b h ∙ ap (λ (n : ℕ). take a out ++ (b ∷ drop n out)) (sym (add-one a)) }
-
--- ---- a text put byte by byte
-
-module _ (out : List ℕ) (a : ℕ) (x : List ℕ) (room : a + length x ≤ length out) where
-  pub bytes-start : Puts out a (take 0 x) (a + 0) out
-  bytes-start = rw (add-zero a) (puts_none out a)
-
-  pub bytes_next : (i : ℕ) (mid : List ℕ) → length mid ≡ length out → i < length x → Puts out a (take i x) (a + i) mid
-      → Puts out a (take (i + 1) x) (a + (i + 1)) (set mid (a + i) (get_or x i 0))
-  bytes_next i mid same h p =
-      let q = puts_then (omega arith) p (puts-byte mid (a + i) (get_or x i 0) (omega arith)) in
-      let ends : a + i + 1 ≡ a + (i + 1) = omega arith in
-      rw (← ends, add-one i, take-suc x i 0 h) q
-
-  pub bytes-end : (i : ℕ) (left : List ℕ) → length x ≤ i → Puts out a (take i x) (a + i) left → Puts out a x (a + i) left
-  bytes-end i left h p = rw (take_all i x h) at p

@@ -8,7 +8,7 @@ ghost use Rattle.text.specs.Bytes.{comma, digit0};
 ghost use Rattle.text.specs.Print.{decimal, vertex_text, edge_text};
 ghost use Rattle.put_text.specs.Puts.{Puts, DigitsOf, Written, initial_text};
 
-use layout::{ABSENT, wide};
+use layout::ABSENT;
 use text::bytes::DIGIT_0;
 
 pub fn put_byte(out: &mut [u8], at: usize, b: u8) -> usize
@@ -23,12 +23,9 @@ pub fn put_bytes(out: &mut [u8], at: usize, text: &[u8]) -> usize
     requires { at + length text.now ≤ length out.old }
     ensures { Puts out.old at text.now result out.new }
 {
-    let mut i = 0;
-    while i < text.len() {
-        out[at + i] = text[i];
-        i += 1;
-    }
-    at + i
+    let end = at + text.len();
+    out[at..end].copy_from_slice(text);
+    end
 }
 
 // A number of at most ten digits.
@@ -36,9 +33,7 @@ pub fn put_decimal(out: &mut [u8], at: usize, n: usize) -> usize
     requires { (n < 10000000000) × (at + length (decimal n) ≤ length out.old) }
     ensures { Puts out.old at (decimal n) result out.new }
 {
-    let digits = digits_of(n);
-    let from = digits.from;
-    let bytes = digits.bytes;
+    let (bytes, from) = digits_of(n);
     put_bytes(out, at, &bytes[from..])
 }
 
@@ -46,7 +41,7 @@ pub fn put_word(out: &mut [u8], at: usize, word: u32) -> usize
     requires { at + length (decimal word) ≤ length out.old }
     ensures { Puts out.old at (decimal word) result out.new }
 {
-    put_decimal(out, at, wide(word))
+    put_decimal(out, at, word as usize)
 }
 
 // A number and a comma.
@@ -91,27 +86,22 @@ pub fn put_edge(out: &mut [u8], at: usize, from: usize, to: usize, cost: usize) 
     put_byte(out, d, b'\n')
 }
 
-// The digits of a number stand at the end of ten bytes.
-#[derive(Clone, Copy)]
-struct Digits {
-    bytes: [u8; 10],
-    from: usize,
-}
-
-fn digits_of(n: usize) -> Digits
+// The digits of a number, at the end of ten bytes, and where they begin.
+fn digits_of(n: usize) -> ([u8; 10], usize)
     requires { n < 10000000000 }
-    ensures { DigitsOf n result }
+    ensures { DigitsOf n result.0 result.1 }
 {
     let mut bytes = [0u8; 10];
     let mut left = n;
     let mut from = 9;
+    // Until the first digit: no range has its end.
     while 10 <= left {
         bytes[from] = digit(left % 10);
-        left = left / 10;
+        left /= 10;
         from -= 1;
     }
     bytes[from] = digit(left);
-    Digits { bytes, from }
+    (bytes, from)
 }
 
 fn digit(n: usize) -> u8

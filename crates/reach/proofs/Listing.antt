@@ -12,12 +12,9 @@ use Rattle.model.specs.Limits.{vertex_limit}
 use Rattle.model.specs.Graph.{Graph, vertex_count}
 use Rattle.reach.specs.Reach.{Reachable}
 use Rattle.reach.specs.Walk.{mark_count, Listed, MarksOne, Explored}
-use Rattle.reach.proofs.Marks.{count-le, count-new, set-old, set-marks, grows-set}
+use Rattle.reach.proofs.Marks.{count-le, count-new, set-marks, grows-set}
 
 module _ {m l : List ℕ} {c v : ℕ} (h : Listed m l c) (inside : v < vertex_limit) where
-  pub mark-old : get_or m v 0 ≡ 1 → MarksOne m l c v m l c
-  mark-old e = record { marks = sym (set-old m v (inl e)); listed = h; more = omega arith; keeps = λ i b. refl }
-
   module _ (free : get_or m v 0 ≡ 1 → ⊥) where
     in-marks : v < length m
     in-marks = omega (arith, h.marks)

@@ -8,7 +8,7 @@ use native.Mathlib.Omega.{arith}
 use lib.ListN.{length, get_or, replicate, length-replicate}
 use Rattle.model.specs.Limits.{vertex_limit}
 use Rattle.model.specs.Graph.{Graph, forward, MayStart, absent, vertex_count}
-use Rattle.layout.specs.Layout.{initial_at, initial_in}
+use Rattle.layout.specs.Layout.{initial_in}
 use Rattle.layout.specs.Read.{graph_in}
 use Rattle.layout.specs.Held.{Held}
 use Rattle.layout.proofs.Edges.{initial-word, vertex-count-in}
@@ -66,9 +66,6 @@ module _ {vs es : ℕ} {ws m l : List ℕ} {c v : ℕ} (s : Starting vs es ws m 
   vertices = vertex-count-in vs es ws (omega (arith, s.held.fits))
 
   module _ (b : v < vs) where
-    pub can-read : initial_at + v < length ws
-    can-read = omega (arith, s.held.fits)
-
     pub can-mark : Listed m l c × (v < vertex_limit)
     can-mark = (s.explored.listed, omega (arith, s.held.sized.vertices))
 

@@ -5,24 +5,16 @@ use mathlib.Core.List.{List}
 use Prim.Native.Nat.{ℕ, ◌+◌, ◌<◌, ◌≤◌}
 use native.Mathlib.Decide.{dec_lt, ℕ_discrete}
 use native.Mathlib.Omega.{arith}
-use lib.ListN.{length, get_or, get_or-eq_default}
+use lib.ListN.{get_or, get_or-eq_default}
 use Rattle.model.specs.Limits.{vertex_limit}
 use Rattle.model.specs.Graph.{Graph, Accepted, Usable, vertex_count, from, to}
-use Rattle.layout.specs.Layout.{header_words, vertices_in, edges_in}
+use Rattle.layout.specs.Layout.{vertices_in, edges_in}
 use Rattle.layout.specs.Read.{graph_in, read_cache}
 use Rattle.layout.specs.Held.{Held}
 use Rattle.reach.specs.Reach.{reach_marks, ReachedIs}
-use Rattle.reach.specs.Walk.{Explored, Begun, CanMarkEnds, MarksEnds}
+use Rattle.reach.specs.Walk.{Explored, Begun, MarksEnds}
 use Rattle.reach.proofs.Marks.{count-le}
 use Rattle.reach.proofs.Exactly.{are-marks, reached-exactly, reach-marked}
-
--- the vertex and edge counts as they were read
-module _ {ws : List ℕ} (h : Held (vertices_in ws) (edges_in ws) ws) where
-  pub header-fits : header_words ≤ length ws
-  header-fits = omega (arith, h.fits)
-
-  pub held-read : {vs es : ℕ} → vs ≡ vertices_in ws → es ≡ edges_in ws → Held vs es ws
-  held-read v e = rw (v, e) h
 
 -- the first n listed vertices are taken
 pub record Taking (vs es : ℕ) (ws m l : List ℕ) (c n : ℕ) : Type 0 where
@@ -30,14 +22,6 @@ pub record Taking (vs es : ℕ) (ws m l : List ℕ) (c n : ℕ) : Type 0 where
   pub begun : Begun (graph_in vs es ws) m l c
   pub within : n ≤ c
   pub done : (i : ℕ) → i < n → (e : ℕ) → Usable (graph_in vs es ws) e → from (graph_in vs es ws) e ≡ get_or l i 0 → get_or m (to (graph_in vs es ws) e) 0 ≡ 1
-
-pub taking-none : {vs es : ℕ} {ws m l : List ℕ} {c : ℕ} → Held vs es ws → es ≡ edges_in ws → Begun (graph_in vs (edges_in ws) ws) m l c → Taking vs es ws m l c 0
-taking-none {vs} {es} {ws} {m} {l} {c} h e b = record {
-  held = h;
-  begun = subst (λ (n : ℕ). Begun (graph_in vs n ws) m l c) (sym e) b;
-  within = omega arith;
-  done = λ i k. absurd (omega arith);
-}
 
 module _ {vs es : ℕ} {ws m l : List ℕ} {c n : ℕ} (t : Taking vs es ws m l c n) where
   abbrev g : Graph
@@ -52,9 +36,6 @@ module _ {vs es : ℕ} {ws m l : List ℕ} {c n : ℕ} (t : Taking vs es ws m l 
 
   -- v: the next listed vertex
   module _ (b : n < c) {v : ℕ} (e : v ≡ get_or l n 0) where
-    pub can-end : CanMarkEnds vs es ws v m l c
-    can-end = record { held = t.held; explored = x; marked = ap (λ (y : ℕ). get_or m y 0) e ∙ x.listed.marked n b }
-
     pub taking-one : {m' l' : List ℕ} {c' : ℕ} → MarksEnds g v m l c m' l' c' → Taking vs es ws m' l' c' (n + 1)
     taking-one r = record {
       held = t.held;

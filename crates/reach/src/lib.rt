@@ -11,8 +11,8 @@ ghost use Rattle.layout.specs.Held.{Held};
 ghost use Rattle.reach.specs.Reach.{ReachedIs};
 ghost use Rattle.reach.specs.Walk.{Listed, MarksOne, Begun, CanMarkEnds, MarksEnds};
 
-use edges::{NextEdge, next_edge};
-use layout::wide;
+use edges::edges_from;
+use layout::GraphSize;
 use model::limits::MAX_VERTICES;
 
 // For each vertex of the graph that the words hold 1 if some path leads to it, else 0. The words of a backward cache hold the edges
@@ -21,15 +21,15 @@ pub fn reached(words: &[u32]) -> [u32; MAX_VERTICES]
     requires { Held (vertices_in words.now) (edges_in words.now) words.now }
     ensures { ReachedIs (read_cache words.now).domain.graph result }
 {
-    let vertices = layout::header(words, layout::VERTICES);
-    let edges = layout::header(words, layout::EDGES);
+    let size = layout::graph_size(words);
     let mut marks = [0u32; MAX_VERTICES];
     let mut list = [0u32; MAX_VERTICES];
-    let mut count = mark_starts(words, vertices, &mut marks, &mut list);
+    let mut count = mark_starts(words, size.vertices, &mut marks, &mut list);
     let mut taken = 0;
+    // The list grows while it is walked, so that no range has its end.
     while taken < count {
         let vertex = list[taken];
-        count = mark_ends(words, vertices, edges, vertex, &mut marks, &mut list, count);
+        count = mark_ends(words, size, vertex, &mut marks, &mut list, count);
         taken += 1;
     }
     marks
@@ -46,12 +46,10 @@ fn mark_starts(
     ensures { Begun (graph_in vertices (edges_in words.now) words.now) marks.new list.new result }
 {
     let mut count = 0;
-    let mut v = 0;
-    while v < vertices {
+    for v in 0..vertices {
         if layout::initial_cost(words, v) != layout::ABSENT {
             count = mark(marks, list, count, v);
         }
-        v += 1;
     }
     count
 }
@@ -59,31 +57,25 @@ fn mark_starts(
 // Marks the ends of the edges that leave a marked vertex.
 fn mark_ends(
     words: &[u32],
-    vertices: usize,
-    edges: usize,
+    size: GraphSize,
     vertex: u32,
     marks: &mut [u32; MAX_VERTICES],
     list: &mut [u32; MAX_VERTICES],
     count: usize,
 ) -> usize
-    requires { CanMarkEnds vertices edges words.now vertex marks.old list.old count }
-    ensures { MarksEnds (graph_in vertices edges words.now) vertex marks.old list.old count marks.new list.new result }
+    requires { CanMarkEnds size.vertices size.edges words.now vertex marks.old list.old count }
+    ensures { MarksEnds (graph_in size.vertices size.edges words.now) vertex marks.old list.old count marks.new list.new result }
 {
-    let numbers = layout::numbers_at(vertices, edges);
-    let slots = layout::slots_at(vertices, edges);
-    let mut place = layout::first_place(words, vertices, edges, wide(vertex));
-    let end = layout::first_place(words, vertices, edges, wide(vertex) + 1);
+    let numbers = size.numbers_at();
+    let slots = size.slots_at();
+    let place = size.first_place(words, vertex as usize);
+    let end = size.first_place(words, vertex as usize + 1);
     let mut total = count;
-    loop {
-        let next = next_edge(&words[numbers..slots], place, end);
-        let found = next.edge;
-        let NextEdge::Edge(edge) = found else {
-            return total;
-        };
-        let to = layout::edge_to(words, vertices, wide(edge));
-        total = mark(marks, list, total, wide(to));
-        place = next.place;
+    for edge in edges_from(&words[numbers..slots], place, end) {
+        let to = layout::edge_to(words, size.vertices, edge as usize);
+        total = mark(marks, list, total, to as usize);
     }
+    total
 }
 
 // Marks a vertex and lists it, unless it is marked.

@@ -2,6 +2,8 @@
 
 #![tactic(auto)]
 
-fn main() {
-    script::run();
+use std::io;
+
+fn main(rt: HostRuntime) -> io::Result<()> {
+    script::run(&rt)
 }

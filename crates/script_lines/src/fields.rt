@@ -1,95 +1,63 @@
 // A line: its name, the direction that it is about, and the fields behind its name, which are parted by spaces.
-ghost use Rattle.std.specs.Prelude.{◌≤◌, length};
-
 use crate::names::{Name, read_name};
-use order_lines::orders::{Numbers, empty_list, no_numbers, read_list};
-use text::bytes::find;
-use text::fields::{Fields, HYPHEN, read_fields};
-
-// The side of a line that names no direction; 0 is forward, 1 is backward.
-const NO_SIDE: usize = 2;
+use order_lines::orders::{Numbers, read_list};
+use text::fields::{Field, Fields, read_fields};
 
 // The longest list.
 const MAX_NUMBERS: usize = 128;
 
+// The direction whose words a line is about.
+#[derive(Clone, Copy, PartialEq, Eq)]
+pub enum Side {
+    Forward,
+    Backward,
+}
+
 // The direction, which is no number, is the first of the fields.
 #[derive(Clone, Copy)]
-pub struct Call {
+pub struct Call<'a> {
+    line: &'a [u8],
     pub name: Name,
-    pub side: usize,
-    pub fields: Fields,
+    pub side: Option<Side>,
+    fields: Fields,
 }
 
-pub fn read_call(line: &[u8]) -> Call {
-    let k = until(line, b' ');
-    let name = read_name(&line[0..k]);
-    let at = start_of(line, 1);
-    let rest = &line[at..];
-    Call {
-        name,
+// A line without its LF. It may have none of the names.
+pub fn read_call(line: &[u8]) -> Option<Call<'_>> {
+    let (name, rest) = match line.iter().position(|b| *b == b' ') {
+        Some(k) => (&line[..k], &line[k + 1..]),
+        None => (line, &line[line.len()..]),
+    };
+    Some(Call {
+        line,
+        name: read_name(name)?,
         side: side_of(rest),
         fields: read_fields(rest, b' '),
+    })
+}
+
+fn side_of(rest: &[u8]) -> Option<Side> {
+    match rest {
+        [b'F'] | [b'F', b' ', ..] => Some(Side::Forward),
+        [b'B'] | [b'B', b' ', ..] => Some(Side::Backward),
+        _ => None,
     }
 }
 
-fn side_of(s: &[u8]) -> usize {
-    if until(s, b' ') != 1 {
-        return NO_SIDE;
+impl Call<'_> {
+    // The fields behind the name; none where they are more than any form has.
+    pub fn fields(&self) -> &[Field] {
+        self.fields.values.get(..self.fields.count).unwrap_or(&[])
     }
-    if s[0] == b'F' {
-        return 0;
-    }
-    if s[0] == b'B' {
-        return 1;
-    }
-    NO_SIDE
-}
 
-// How many bytes stand before the first `b`.
-fn until(s: &[u8], b: u8) -> usize
-    ensures { result ≤ length s.now }
-{
-    find(s, b)
-}
-
-// Field i of the line, its name being field 0, as a list: `-`, or at most 128 numbers parted by commas.
-pub fn read_numbers(line: &[u8], i: usize) -> Numbers {
-    let at = start_of(line, i);
-    let rest = &line[at..];
-    let k = until(rest, b' ');
-    list_of(&rest[0..k])
-}
-
-fn list_of(field: &[u8]) -> Numbers {
-    let f = read_fields(field, b',');
-    if f.count == 1 {
-        if f.values[0] == HYPHEN {
-            return empty_list();
+    // Field i of the line, its name being field 0, as a list: `-`, or at most 128 numbers parted by commas.
+    pub fn numbers(&self, i: usize) -> Option<Numbers> {
+        let field = self.line.split(|b| *b == b' ').nth(i)?;
+        match field {
+            [] => None,
+            [b'-'] => Some(Numbers::new()),
+            _ if MAX_NUMBERS < field.split(|b| *b == b',').count() => None,
+            _ => read_list(field, b','),
         }
     }
-    if field.len() == 0 {
-        return no_numbers();
-    }
-    if MAX_NUMBERS < f.count {
-        return no_numbers();
-    }
-    read_list(field, b',')
-}
-
-// Where field i of the line starts.
-fn start_of(line: &[u8], i: usize) -> usize
-    ensures { result ≤ length line.now }
-{
-    let mut at = 0;
-    let mut left = i;
-    while 0 < left {
-        let rest = &line[at..];
-        let k = until(rest, b' ');
-        if k == rest.len() {
-            return line.len();
-        }
-        at = at + k + 1;
-        left -= 1;
-    }
-    at
 }

@@ -1,160 +1,90 @@
 // Standard input, byte by byte: a buffer that is filled anew when it is used up, four times at most. With a buffer of 65,536 bytes
-// these are the first 262,144 bytes, and no loop over them has more turns.
+// these are the first 262,144 bytes.
+ghost use Rattle.std.specs.Prelude.{◌+◌, ◌-◌, ◌*◌, ◌≤◌, IfSome, length};
+ghost use Rattle.std.specs.Iterator.{at_most};
 
+use std::iter::once;
+
+// No input has more bytes, nor more lines.
 pub const MAX_BYTES: usize = 262144;
 
-// Where the next byte stands in the buffer, where its bytes end, and how often it may still be filled.
-#[derive(Clone, Copy)]
+// The buffer's next byte, where its bytes end, and how often it may still be filled.
+#[derive(Drop)]
 pub struct Input {
-    pub at: usize,
-    pub end: usize,
-    pub fills: usize,
-}
-
-// One byte, unless the input ended.
-#[derive(Clone, Copy)]
-pub struct Taken {
-    pub input: Input,
-    pub ended: bool,
-    pub byte: u8,
-}
-
-// A line, without its LF, or the end of the input.
-#[derive(Clone, Copy)]
-pub struct Line {
-    pub input: Input,
-    pub length: usize,
-    pub ended: bool,
-}
-
-// Some lines, with each LF, and whether there was room for all.
-#[derive(Clone, Copy)]
-pub struct Lines {
-    pub input: Input,
-    pub length: usize,
-    pub fits: bool,
+    buffer: [u8; 65536],
+    at: usize,
+    end: usize,
+    fills: usize,
+    ghost in_buffer: { end ≤ 65536 },
 }
 
 impl Input {
     pub fn new() -> Input {
         Input {
+            buffer: [0; 65536],
             at: 0,
             end: 0,
             fills: 4,
         }
     }
-}
 
-fn take(buffer: &mut [u8], input: Input) -> Taken {
-    let ready = filled(buffer, input);
-    let at = ready.at;
-    let end = ready.end;
-    if end <= at {
-        return ended(ready);
-    }
-    if buffer.len() <= at {
-        return ended(ready);
-    }
-    Taken {
-        input: Input {
-            at: at + 1,
-            end,
-            fills: ready.fills,
-        },
-        ended: false,
-        byte: buffer[at],
-    }
-}
-
-fn ended(input: Input) -> Taken {
-    Taken {
-        input,
-        ended: true,
-        byte: 0,
-    }
-}
-
-// A used-up buffer filled anew.
-fn filled(buffer: &mut [u8], input: Input) -> Input {
-    if input.at < input.end {
-        return input;
-    }
-    if input.fills == 0 {
-        return input;
-    }
-    let end = io::read_full(0, buffer);
-    Input {
-        at: 0,
-        end,
-        fills: input.fills - 1,
-    }
-}
-
-// The next line stands at the start of `line` then. Of a longer one only the start is kept; no form is as long as that.
-pub fn read_line(buffer: &mut [u8; 65536], line: &mut [u8; 4096], start: Input) -> Line {
-    let mut input = start;
-    let mut length = 0;
-    let mut bytes: usize = 0;
-    while bytes < MAX_BYTES {
-        let taken = take(buffer, input);
-        input = taken.input;
-        if taken.ended {
-            return Line {
-                input,
-                length,
-                ended: bytes == 0,
-            };
+    // The next line, which stands at the start of `line` then, without its LF. Of a longer one only the start is kept; no form is as
+    // long as that.
+    pub fn read_line<'a>(&mut self, line: &'a mut [u8]) -> Option<&'a [u8]> {
+        let first = self.next()?;
+        let mut length = 0;
+        for byte in once(first).chain(self).take_while(|byte| *byte != b'\n') {
+            length = put(line, length, byte);
         }
-        if taken.byte == b'\n' {
-            break;
-        }
-        length = put(line, length, taken.byte);
-        bytes += 1;
+        Some(&line[..length])
     }
-    Line {
-        input,
-        length,
-        ended: false,
+
+    // The next lines, with each LF, or those that are left. They may have no room.
+    pub fn read_lines(&mut self, text: &mut [u8], count: usize) -> Option<usize>
+        ensures { IfSome result (λ n. n ≤ length text.new) }
+    {
+        let mut left = count;
+        let mut length = 0;
+        let mut fits = true;
+        // Bytes come until so many lines have ended.
+        while 0 < left
+            && let Some(byte) = self.next()
+        {
+            fits = length < text.len();
+            length = put(text, length, byte);
+            if byte == b'\n' {
+                left -= 1;
+            }
+        }
+        fits.then_some(length)
     }
 }
 
-// The next lines stand at the start of `text` then.
-pub fn read_lines(
-    buffer: &mut [u8; 65536],
-    text: &mut [u8; 65536],
-    start: Input,
-    count: usize,
-) -> Lines {
-    let mut input = start;
-    let mut left = count;
-    let mut length = 0;
-    let mut bytes: usize = 0;
-    while bytes < MAX_BYTES {
-        if left == 0 {
-            break;
-        }
-        let taken = take(buffer, input);
-        input = taken.input;
-        if taken.ended {
-            break;
-        }
-        length = put(text, length, taken.byte);
-        if taken.byte == b'\n' {
-            left -= 1;
-        }
-        bytes += 1;
+// Puts a byte where there is room, and answers where the next one goes.
+fn put(text: &mut [u8], at: usize, b: u8) -> usize
+    requires { at ≤ length text.old }
+    ensures { result ≤ length text.new }
+{
+    if at == text.len() {
+        return at;
     }
-    Lines {
-        input,
-        length,
-        fits: bytes == length,
-    }
+    text[at] = b;
+    at + 1
 }
 
-fn put(text: &mut [u8], at: usize, b: u8) -> usize {
-    if at < text.len() {
-        text[at] = b;
-        return at + 1;
+impl Iterator for Input {
+    type Item = u8;
+
+    ghost remaining = { λ s. at_most (s.fills * 65536 + (s.end - s.at)) };
+
+    fn next(&mut self) -> Option<u8> {
+        if self.end <= self.at && 0 < self.fills {
+            self.end = io::read_full(0, &mut self.buffer);
+            self.at = 0;
+            self.fills -= 1;
+        }
+        let byte = *self.buffer[..self.end].get(self.at)?;
+        self.at += 1;
+        Some(byte)
     }
-    at
 }

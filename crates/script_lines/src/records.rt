@@ -1,171 +1,41 @@
-// The lines on a search record alone. Each answers the record as it is then.
+// The lines that set a part of a search record.
 use crate::names::Name;
-use crate::print::{print, print_no_form, print_record};
-use model::limits::MAX_ENTRIES;
-use model::{BestSolution, KnownLen, Search, Solution, TreeMemory};
+use model::{BestSolution, Search, TreeMemory};
 use text::bytes::capped;
-use text::fields::{Fields, HYPHEN, MAX_NUMBER, OTHER};
+use text::fields::Field::{self, Hyphen, Number};
 
-pub fn on_record(name: Name, f: Fields, record: Search) -> Search {
-    match name {
-        Name::Record => show(f, record),
-        Name::Entry => set_entry(f, record),
-        Name::Wanted => set_goal(f, record),
-        Name::Best => set_best(f, record),
-        Name::Entries => set_entries(number_of(f), record),
-        Name::Wanteds => set_goals(number_of(f), record),
-        Name::Finished => set_finished(number_of(f), record),
-        _ => passed_over(record),
-    }
-}
-
-// A line that has no form.
-fn passed_over(record: Search) -> Search {
-    print_no_form();
-    record
-}
-
-// A line that sets a part of the record.
-fn set(record: Search) -> Search {
-    print(b"set\n");
-    record
-}
-
-fn show(f: Fields, record: Search) -> Search {
-    if f.count == 1 {
-        print_record(record);
-        return record;
-    }
-    passed_over(record)
-}
-
-fn set_entry(f: Fields, record: Search) -> Search {
-    let i = f.values[1];
-    if is_entry(f) {
-        if i < MAX_ENTRIES {
-            let mut next = record;
-            next.trees[i] = entry(f.values[2], f.values[3], f.values[4]);
-            return set(next);
+// The record as a line leaves it that has one of these forms. The first field is the number of the record.
+pub fn set(name: Name, fields: &[Field], mut record: Search) -> Option<Search> {
+    match (name, fields) {
+        (Name::Entry, [_, Number(i), Number(slot), count, node]) => {
+            *record.trees.get_mut(*i)? = TreeMemory {
+                tree: capped(*slot),
+                last_known_closed_len: held(*count)?,
+                solution: held(*node)?,
+            };
         }
-    }
-    passed_over(record)
-}
-
-fn is_entry(f: Fields) -> bool {
-    if f.count != 5 {
-        return false;
-    }
-    if MAX_NUMBER < f.values[2] {
-        return false;
-    }
-    if HYPHEN < f.values[3] {
-        return false;
-    }
-    f.values[4] <= HYPHEN
-}
-
-fn entry(slot: usize, count: usize, node: usize) -> TreeMemory {
-    TreeMemory {
-        tree: capped(slot),
-        last_known_closed_len: known(count),
-        solution: solution(node),
-    }
-}
-
-fn known(count: usize) -> KnownLen {
-    if count == HYPHEN {
-        return KnownLen::Never;
-    }
-    KnownLen::Len(capped(count))
-}
-
-fn solution(node: usize) -> Solution {
-    if node == HYPHEN {
-        return Solution::Unsolved;
-    }
-    Solution::At(capped(node))
-}
-
-fn set_goal(f: Fields, record: Search) -> Search {
-    let i = f.values[1];
-    let vertex = f.values[2];
-    if f.count == 3 {
-        if vertex <= MAX_NUMBER {
-            if i < MAX_ENTRIES {
-                let mut next = record;
-                next.goal_keys[i] = capped(vertex);
-                return set(next);
-            }
+        (Name::Wanted, [_, Number(i), Number(vertex)]) => {
+            *record.goal_keys.get_mut(*i)? = capped(*vertex);
         }
-    }
-    passed_over(record)
-}
-
-fn set_best(f: Fields, record: Search) -> Search {
-    let entry = f.values[1];
-    let node = f.values[2];
-    if number_of(f) == HYPHEN {
-        return set(with_best(record, BestSolution::NoBest));
-    }
-    if f.count == 3 {
-        if entry <= MAX_NUMBER {
-            if node <= MAX_NUMBER {
-                return set(with_best(record, best(entry, node)));
-            }
+        (Name::Best, [_, Hyphen]) => record.best_solution = None,
+        (Name::Best, [_, Number(entry), Number(node)]) => {
+            let (entry, node) = (capped(*entry), capped(*node));
+            record.best_solution = Some(BestSolution { entry, node });
         }
+        (Name::Entries, [_, Number(n)]) => record.tree_count = capped(*n),
+        (Name::Wanteds, [_, Number(n)]) => record.goal_count = capped(*n),
+        (Name::Finished, [_, Number(0)]) => record.exhausted = false,
+        (Name::Finished, [_, Number(1)]) => record.exhausted = true,
+        _ => return None,
     }
-    passed_over(record)
+    Some(record)
 }
 
-fn best(entry: usize, node: usize) -> BestSolution {
-    BestSolution::Best {
-        entry: capped(entry),
-        node: capped(node),
+// A number, or `-` for none.
+fn held(field: Field) -> Option<Option<u32>> {
+    match field {
+        Number(n) => Some(Some(capped(n))),
+        Hyphen => Some(None),
+        Field::Other => None,
     }
-}
-
-fn with_best(record: Search, best_solution: BestSolution) -> Search {
-    let trees = record.trees;
-    let goal_keys = record.goal_keys;
-    Search {
-        trees,
-        tree_count: record.tree_count,
-        goal_keys,
-        goal_count: record.goal_count,
-        best_solution,
-        exhausted: record.exhausted,
-    }
-}
-
-// The field behind the record, if there is one alone.
-fn number_of(f: Fields) -> usize {
-    if f.count == 2 {
-        return f.values[1];
-    }
-    OTHER
-}
-
-fn set_entries(n: usize, record: Search) -> Search {
-    if MAX_NUMBER < n {
-        return passed_over(record);
-    }
-    let mut next = record;
-    next.tree_count = capped(n);
-    set(next)
-}
-
-fn set_goals(n: usize, record: Search) -> Search {
-    if MAX_NUMBER < n {
-        return passed_over(record);
-    }
-    let mut next = record;
-    next.goal_count = capped(n);
-    set(next)
-}
-
-fn set_finished(n: usize, record: Search) -> Search {
-    if 1 < n {
-        return passed_over(record);
-    }
-    set(record.with_exhausted(n == 1))
 }

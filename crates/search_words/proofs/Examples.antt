@@ -2,15 +2,13 @@
 -- the fault mended.
 -- Assumes nothing.
 use mathlib.Core.Path.{◌≡◌, refl}
+use Rattle.std.specs.Prelude.{None, Some}
 use mathlib.Core.Bool.{true, false}
 use mathlib.Core.List.{List, [], ◌∷◌, ◌++◌}
 use Prim.Native.Nat.{ℕ}
 use lib.ListN.{set, take, drop, replicate}
 use Rattle.model.specs.Calls.{written}
-use Rattle.model.specs.Search.{blank, empty_search}
-use Rattle.model.specs.declared.KnownLen.TheVariants.{Never, Len}
-use Rattle.model.specs.declared.Solution.TheVariants.{Unsolved, At}
-use Rattle.model.specs.declared.BestSolution.TheVariants.{NoBest, Best}
+use Rattle.model.specs.Search.{blank, empty_search, as_best}
 use Rattle.model.specs.declared.Search.{Search}
 use Rattle.search_words.specs.Record.{record_words, encode, decode, is_record}
 
@@ -31,11 +29,11 @@ unfoldable pub sample : Search
 sample =
     record {
       trees =
-          record { tree = 3; last_known_closed_len = Len 7; solution = At 9 } ∷ record { tree = 5; last_known_closed_len = Never; solution = Unsolved } ∷ replicate 62 blank;
+          record { tree = 3; last_known_closed_len = Some 7; solution = Some 9 } ∷ record { tree = 5; last_known_closed_len = None; solution = None } ∷ replicate 62 blank;
       tree_count = 2;
       goal_keys = 11 ∷ 12 ∷ 13 ∷ replicate 61 0;
       goal_count = 3;
-      best_solution = Best 0 9;
+      best_solution = as_best 0 9;
       exhausted = true;
     }
 
@@ -62,11 +60,11 @@ sample-decoded = refl
 abbrev last_ones : Search
 last_ones =
     record {
-      trees = set (replicate 64 blank) 63 (record { tree = 3; last_known_closed_len = Len 7; solution = At 9 });
+      trees = set (replicate 64 blank) 63 (record { tree = 3; last_known_closed_len = Some 7; solution = Some 9 });
       tree_count = 0;
       goal_keys = set (replicate 64 0) 63 11;
       goal_count = 0;
-      best_solution = NoBest;
+      best_solution = None;
       exhausted = false;
     }
 

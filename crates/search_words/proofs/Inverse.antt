@@ -18,9 +18,9 @@ use Rattle.model.specs.declared.Search.{Search}
 use Rattle.model.proofs.Bools.{and-true, true-and, all_true, true-given, upto-at, at-upto}
 use Rattle.model.proofs.Demand1.{written-length}
 use Rattle.model.proofs.Lists.{numbers-snoc, up-length, map-up-at}
-use Rattle.search_words.specs.Record.{best_at, goals_at, entries_at, entry_at, entry_size, record_words, best_words, mark_word, entry_words, entries_words, encode, Arrays, known_of, solution_of, best_of, mark_of, entry_in, decode, optionb, bestb, entryb, record_tests, is_record, Inverse, Encodes}
+use Rattle.search_words.specs.Record.{best_at, goals_at, entries_at, entry_at, entry_size, record_words, best_words, mark_word, entry_words, entries_words, encode, Arrays, option_of, best_of, mark_of, entry_in, decode, optionb, bestb, entryb, record_tests, is_record, Inverse, Encodes}
 use Rattle.search_words.proofs.Stores.{entry_length, entries-snoc, record-length}
-use Rattle.search_words.proofs.Tags.{known_written, solution-written, best-written, mark-written, options-read, BestRead, best-read, mark-back, mark-passes}
+use Rattle.search_words.proofs.Tags.{option_written, best-written, mark-written, options-read, BestRead, best-read, mark-back, mark-passes}
 
 -- ---- words in a row
 
@@ -49,7 +49,7 @@ entry-again : (ws : List ℕ) (i : ℕ) → entry_at i + entry_size ≤ length w
 entry-again ws i h e =
     let at = entry_at i in
     let p = and-true (optionb (get_or ws (at + 1) 0) (get_or ws (at + 2) 0)) (optionb (get_or ws (at + 3) 0) (get_or ws (at + 4) 0)) e in
-    ap₂ (λ (x y : List ℕ). get_or ws at 0 ∷ (x ++ y)) (known_written (get_or ws (at + 1) 0) (get_or ws (at + 2) 0) p.0) (solution-written (get_or ws (at + 3) 0) (get_or ws (at + 4) 0) p.1)
+    ap₂ (λ (x y : List ℕ). get_or ws at 0 ∷ (x ++ y)) (option_written (get_or ws (at + 1) 0) (get_or ws (at + 2) 0) p.0) (option_written (get_or ws (at + 3) 0) (get_or ws (at + 4) 0) p.1)
     ∙ ap (λ (k : ℕ). get_or ws k 0 ∷ get_or ws (at + 1) 0 ∷ get_or ws (at + 2) 0 ∷ get_or ws (at + 3) 0 ∷ get_or ws (at + 4) 0 ∷ []) (omega arith)
     ∙ sym (row entry_size at ws h)
 
@@ -138,8 +138,8 @@ module _ (s : Search) (a : Arrays s) (past : List ℕ) where
       let r = options-read e.last_known_closed_len e.solution in
       let first : entry_at i ≡ entry_at i + 0 = omega arith in
       let tree = ap (λ (m : ℕ). get_or (encode s ++ past) m 0) first ∙ word i 0 h (omega arith) in
-      let known = ap₂ known_of (word i 1 h (omega arith)) (word i 2 h (omega arith)) ∙ r.known in
-      let solution = ap₂ solution_of (word i 3 h (omega arith)) (word i 4 h (omega arith)) ∙ r.solution in
+      let known = ap₂ option_of (word i 1 h (omega arith)) (word i 2 h (omega arith)) ∙ r.known in
+      let solution = ap₂ option_of (word i 3 h (omega arith)) (word i 4 h (omega arith)) ∙ r.solution in
       λ x. record { tree = tree x; last_known_closed_len = known x; solution = solution x }
 
   entry-passes : (i : ℕ) → i < list_limit → entryb (encode s ++ past) i ≡ true

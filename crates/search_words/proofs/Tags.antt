@@ -1,6 +1,8 @@
 -- A tag and the numbers after it: as the code tests them, written back, and read back.
 -- Assumes nothing.
 use mathlib.Core.Path.{◌≡◌, refl, sym, ap, ◌∙◌}
+use Rattle.std.specs.declared.option.Option.{Option}
+use Rattle.std.specs.Prelude.{None, Some}
 use mathlib.Core.Logic.{◌⊎◌, inl, inr}
 use mathlib.Core.Bool.{Bool, true, false, not, ◌&&◌, or-false}
 use mathlib.Core.List.{List, [], ◌∷◌, ◌++◌}
@@ -9,14 +11,9 @@ use native.Mathlib.Omega.{arith}
 use borrow.Author.Tests.{eqb-true, eq-eqb, ne_eqb}
 use lib.Dec.{eqb, leb}
 use lib.ListN.{get_or, drop}
-use Rattle.model.specs.declared.KnownLen.{KnownLen}
-use Rattle.model.specs.declared.KnownLen.TheVariants.{Never, Len}
-use Rattle.model.specs.declared.Solution.{Solution}
-use Rattle.model.specs.declared.Solution.TheVariants.{Unsolved, At}
 use Rattle.model.specs.declared.BestSolution.{BestSolution}
-use Rattle.model.specs.declared.BestSolution.TheVariants.{NoBest, Best}
 use Rattle.model.proofs.Bools.{and-true, or_cases}
-use Rattle.search_words.specs.Record.{known_words, solution_words, best_words, mark_word, known_of, solution_of, best_of, mark_of, tagb, optionb, bestb}
+use Rattle.search_words.specs.Record.{option_words, best_words, mark_word, option_of, best_of, mark_of, tagb, optionb, bestb}
 
 -- ---- as the code tests them
 
@@ -25,18 +22,6 @@ tag-none k zeros e = sym (ap (λ (x : ℕ). tagb x zeros) e ∙ or-false zeros)
 
 pub tag-some : (k : ℕ) (zeros : Bool) → (k ≡ 0 → ⊥) → eqb k 1 ≡ tagb k zeros
 tag-some k zeros h = rw (ne_eqb k 0 h)
-
-pub known_some : (k n : ℕ) → (k ≡ 0 → ⊥) → Len n ≡ known_of k n
-known_some zero n h = absurd (h refl)
-known_some (suc k) n h = refl
-
-pub solution-some : (k n : ℕ) → (k ≡ 0 → ⊥) → At n ≡ solution_of k n
-solution-some zero n h = absurd (h refl)
-solution-some (suc k) n h = refl
-
-pub best-some : (k i n : ℕ) → (k ≡ 0 → ⊥) → Best i n ≡ best_of k i n
-best-some zero i n h = absurd (h refl)
-best-some (suc k) i n h = refl
 
 pub mark-read : (k : ℕ) → not (eqb k 0) ≡ mark_of k
 mark-read zero = refl
@@ -59,11 +44,8 @@ first-fails x a b e p = p ∙ rw (sym e ∙ p)
 tag-cases : (k : ℕ) (zeros : Bool) → tagb k zeros ≡ true → ((k ≡ 0) × (zeros ≡ true)) ⊎ (k ≡ 1)
 tag-cases k zeros e = elim (or_cases (eqb k 0 && zeros) (eqb k 1) e) [ inl p ↦ (let q = and-true (eqb k 0) zeros p in inl (eqb-true k 0 q.0, q.1)) | inr p ↦ inr (eqb-true k 1 p) ]
 
-pub known_written : (k n : ℕ) → optionb k n ≡ true → known_words (known_of k n) ≡ k ∷ n ∷ []
-known_written k n e = elim (tag-cases k (eqb n 0) e) [ inl p ↦ rw (p.0, eqb-true n 0 p.1) | inr p ↦ rw p ]
-
-pub solution-written : (k n : ℕ) → optionb k n ≡ true → solution_words (solution_of k n) ≡ k ∷ n ∷ []
-solution-written k n e = elim (tag-cases k (eqb n 0) e) [ inl p ↦ rw (p.0, eqb-true n 0 p.1) | inr p ↦ rw p ]
+pub option_written : (k n : ℕ) → optionb k n ≡ true → option_words (option_of k n) ≡ k ∷ n ∷ []
+option_written k n e = elim (tag-cases k (eqb n 0) e) [ inl p ↦ rw (p.0, eqb-true n 0 p.1) | inr p ↦ rw p ]
 
 pub best-written : (k i n : ℕ) → bestb k i n ≡ true → best_words (best_of k i n) ≡ k ∷ i ∷ n ∷ []
 best-written k i n e = elim (tag-cases k (eqb i 0 && eqb n 0) e) [ inl p ↦ (let q = and-true (eqb i 0) (eqb n 0) p.1 in rw (p.0, eqb-true i 0 q.0, eqb-true n 0 q.1)) | inr p ↦ rw p ]
@@ -75,27 +57,27 @@ mark-written (suc k) h = omega arith
 -- ---- words that were written pass the test, and are read as they were
 
 -- the words w of a count and a node
-pub record OptionsRead (k : KnownLen) (o : Solution) (w : List ℕ) : Type 0 where
-  pub known : known_of (get_or w 0 0) (get_or w 1 0) ≡ k
-  pub solution : solution_of (get_or w 2 0) (get_or w 3 0) ≡ o
+pub record OptionsRead (k : Option ℕ) (o : Option ℕ) (w : List ℕ) : Type 0 where
+  pub known : option_of (get_or w 0 0) (get_or w 1 0) ≡ k
+  pub solution : option_of (get_or w 2 0) (get_or w 3 0) ≡ o
   pub known_passes : optionb (get_or w 0 0) (get_or w 1 0) ≡ true
   pub solution_passes : optionb (get_or w 2 0) (get_or w 3 0) ≡ true
 
-pub options-read : (k : KnownLen) (o : Solution) → OptionsRead k o (known_words k ++ solution_words o)
-options-read Never Unsolved = record { known = refl; solution = refl; known_passes = refl; solution_passes = refl }
-options-read Never (At n) = record { known = refl; solution = refl; known_passes = refl; solution_passes = refl }
-options-read (Len m) Unsolved = record { known = refl; solution = refl; known_passes = refl; solution_passes = refl }
-options-read (Len m) (At n) = record { known = refl; solution = refl; known_passes = refl; solution_passes = refl }
+pub options-read : (k : Option ℕ) (o : Option ℕ) → OptionsRead k o (option_words k ++ option_words o)
+options-read None None = record { known = refl; solution = refl; known_passes = refl; solution_passes = refl }
+options-read None (Some n) = record { known = refl; solution = refl; known_passes = refl; solution_passes = refl }
+options-read (Some m) None = record { known = refl; solution = refl; known_passes = refl; solution_passes = refl }
+options-read (Some m) (Some n) = record { known = refl; solution = refl; known_passes = refl; solution_passes = refl }
 
 -- the words w of a best, with the words l past them
-pub record BestRead (b : BestSolution) (l w : List ℕ) : Type 0 where
+pub record BestRead (b : Option BestSolution) (l w : List ℕ) : Type 0 where
   pub reads : best_of (get_or w 0 0) (get_or w 1 0) (get_or w 2 0) ≡ b
   pub passes : bestb (get_or w 0 0) (get_or w 1 0) (get_or w 2 0) ≡ true
   pub past : drop 3 w ≡ l
 
-pub best-read : (b : BestSolution) (l : List ℕ) → BestRead b l (best_words b ++ l)
-best-read NoBest l = record { reads = refl; passes = refl; past = refl }
-best-read (Best i n) l = record { reads = refl; passes = refl; past = refl }
+pub best-read : (b : Option BestSolution) (l : List ℕ) → BestRead b l (best_words b ++ l)
+best-read None l = record { reads = refl; passes = refl; past = refl }
+best-read (Some b) l = record { reads = refl; passes = refl; past = refl }
 
 pub mark-back : (b : Bool) → mark_of (mark_word b) ≡ b
 mark-back false = refl

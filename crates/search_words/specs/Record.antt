@@ -1,15 +1,12 @@
 -- A search record in words that a board lends: a caller that has no struct of this shape keeps its record as 390 words.
 -- Assumes nothing.
-use Rattle.std.specs.Prelude.{◌≡◌, ◌↔◌, Bool, true, false, ◌&&◌, ◌||◌, List, [], ◌∷◌, ◌++◌, map, ℕ, zero, suc, ◌+◌, ◌*◌, ◌≤◌, eqb, leb, length, get_or, take, drop}
+use Rattle.std.specs.Prelude.{◌≡◌, ◌↔◌, Bool, true, false, ◌&&◌, ◌||◌, List, [], ◌∷◌, ◌++◌, map, ℕ, zero, suc, ◌+◌, ◌*◌, ◌≤◌, eqb, leb, length, get_or, take, drop, None, Some}
+use Rattle.model.specs.Search.{as_best}
+use Rattle.std.specs.declared.option.Option.{Option}
 use Rattle.model.specs.Limits.{list_limit}
 use Rattle.model.specs.Lists.{numbers, allb, upto}
 use Rattle.model.specs.Calls.{written}
-use Rattle.model.specs.declared.KnownLen.{KnownLen}
-use Rattle.model.specs.declared.KnownLen.TheVariants.{Never, Len}
-use Rattle.model.specs.declared.Solution.{Solution}
-use Rattle.model.specs.declared.Solution.TheVariants.{Unsolved, At}
 use Rattle.model.specs.declared.BestSolution.{BestSolution}
-use Rattle.model.specs.declared.BestSolution.TheVariants.{NoBest, Best}
 use Rattle.model.specs.declared.TreeMemory.{TreeMemory}
 use Rattle.model.specs.declared.Search.{Search}
 
@@ -41,24 +38,20 @@ record_words = entry_at list_limit
 
 -- ---- a record as words: what may be absent is 0 and 0s, or 1 and its numbers
 
-abbrev pub known_words : KnownLen → List ℕ
-known_words Never = 0 ∷ 0 ∷ []
-known_words (Len n) = 1 ∷ n ∷ []
+abbrev pub option_words : Option ℕ → List ℕ
+option_words None = 0 ∷ 0 ∷ []
+option_words (Some n) = 1 ∷ n ∷ []
 
-abbrev pub solution_words : Solution → List ℕ
-solution_words Unsolved = 0 ∷ 0 ∷ []
-solution_words (At n) = 1 ∷ n ∷ []
-
-abbrev pub best_words : BestSolution → List ℕ
-best_words NoBest = 0 ∷ 0 ∷ 0 ∷ []
-best_words (Best i n) = 1 ∷ i ∷ n ∷ []
+abbrev pub best_words : Option BestSolution → List ℕ
+best_words None = 0 ∷ 0 ∷ 0 ∷ []
+best_words (Some b) = 1 ∷ b.entry ∷ b.node ∷ []
 
 abbrev pub mark_word : Bool → ℕ
 mark_word false = 0
 mark_word true = 1
 
 abbrev pub entry_words : TreeMemory → List ℕ
-entry_words e = e.tree ∷ (known_words e.last_known_closed_len ++ solution_words e.solution)
+entry_words e = e.tree ∷ (option_words e.last_known_closed_len ++ option_words e.solution)
 
 unfoldable pub entries_words : List TreeMemory → List ℕ
 entries_words [] = []
@@ -77,17 +70,13 @@ pub record Arrays (s : Search) : Type 0 where
 
 -- ---- words as a record
 
-abbrev pub known_of : ℕ → ℕ → KnownLen
-known_of zero n = Never
-known_of (suc k) n = Len n
+abbrev pub option_of : ℕ → ℕ → Option ℕ
+option_of zero n = None
+option_of (suc k) n = Some n
 
-abbrev pub solution_of : ℕ → ℕ → Solution
-solution_of zero n = Unsolved
-solution_of (suc k) n = At n
-
-abbrev pub best_of : ℕ → ℕ → ℕ → BestSolution
-best_of zero i n = NoBest
-best_of (suc k) i n = Best i n
+abbrev pub best_of : ℕ → ℕ → ℕ → Option BestSolution
+best_of zero i n = None
+best_of (suc k) i n = as_best i n
 
 abbrev pub mark_of : ℕ → Bool
 mark_of zero = false
@@ -98,8 +87,8 @@ entry_in ws i =
     let at = entry_at i in
     record {
       tree = get_or ws at 0;
-      last_known_closed_len = known_of (get_or ws (at + 1) 0) (get_or ws (at + 2) 0);
-      solution = solution_of (get_or ws (at + 3) 0) (get_or ws (at + 4) 0);
+      last_known_closed_len = option_of (get_or ws (at + 1) 0) (get_or ws (at + 2) 0);
+      solution = option_of (get_or ws (at + 3) 0) (get_or ws (at + 4) 0);
     }
 
 unfoldable pub decode : List ℕ → Search

@@ -6,10 +6,11 @@ ghost use Rattle.std.specs.Prelude.{◌≡◌, [], ◌∷◌, map, ◌+◌, ◌�
 ghost use Rattle.std.proofs.lemmas.List.Edits.{sets};
 ghost use Rattle.model.specs.Limits.{list_limit};
 ghost use Rattle.model.specs.Lists.{numbers, upto};
-ghost use Rattle.search_words.specs.Record.{best_at, goals_at, entries_at, entry_at, entry_size, record_words, known_words, solution_words, best_words, entry_words, entries_words, known_of, solution_of, best_of, entry_in, tagb, optionb, bestb, entryb, is_record, decode as Record·decode, Encodes};
+ghost use Rattle.search_words.specs.Record.{best_at, goals_at, entries_at, entry_at, entry_size, record_words, option_words, best_words, entry_words, entries_words, option_of, best_of, entry_in, tagb, optionb, bestb, entryb, is_record, decode as Record·decode, Encodes};
 
 use model::limits::MAX_ENTRIES;
-use model::{BestSolution, KnownLen, Search, Solution, TreeMemory};
+use model::{BestSolution, Search, TreeMemory};
+use std::array;
 
 // Where each word stands; specs/Record.antt has the same numbers.
 const ENTRY_COUNT: usize = 1;
@@ -53,14 +54,7 @@ fn are_entries(words: &[u32]) -> bool
     requires { record_words ≤ length words.now }
     ensures { result ≡ upto (entryb words.now) list_limit }
 {
-    let mut i = 0;
-    while i < MAX_ENTRIES {
-        if !is_entry(words, i) {
-            return false;
-        }
-        i += 1;
-    }
-    true
+    (0..MAX_ENTRIES).all(|i| is_entry(words, i))
 }
 
 fn is_entry(words: &[u32], i: usize) -> bool
@@ -102,25 +96,21 @@ pub fn decode(words: &[u32]) -> Search
     }
 }
 
-fn best_of(tag: u32, entry: u32, node: u32) -> BestSolution
+fn best_of(tag: u32, entry: u32, node: u32) -> Option<BestSolution>
     ensures { result ≡ best_of tag entry node }
 {
     if tag == 0 {
-        return BestSolution::NoBest;
+        return None;
     }
-    BestSolution::Best { entry, node }
+    Some(BestSolution { entry, node })
 }
 
 fn decode_goals(words: &[u32]) -> [u32; MAX_ENTRIES]
     requires { record_words ≤ length words.now }
     ensures { result ≡ take list_limit (drop goals_at words.now) }
 {
-    let mut goals = [0u32; MAX_ENTRIES];
-    let mut i = 0;
-    while i < MAX_ENTRIES {
-        goals[i] = words[GOALS + i];
-        i += 1;
-    }
+    let mut goals = [0; MAX_ENTRIES];
+    goals.copy_from_slice(&words[GOALS..GOALS + MAX_ENTRIES]);
     goals
 }
 
@@ -128,17 +118,7 @@ fn decode_entries(words: &[u32]) -> [TreeMemory; MAX_ENTRIES]
     requires { record_words ≤ length words.now }
     ensures { result ≡ map (entry_in words.now) (numbers list_limit) }
 {
-    let mut trees = [TreeMemory {
-        tree: 0,
-        last_known_closed_len: KnownLen::Never,
-        solution: Solution::Unsolved,
-    }; MAX_ENTRIES];
-    let mut i = 0;
-    while i < MAX_ENTRIES {
-        trees[i] = decode_entry(words, i);
-        i += 1;
-    }
-    trees
+    array::from_fn(|i| decode_entry(words, i))
 }
 
 fn decode_entry(words: &[u32], i: usize) -> TreeMemory
@@ -148,27 +128,18 @@ fn decode_entry(words: &[u32], i: usize) -> TreeMemory
     let at = ENTRIES + ENTRY * i;
     TreeMemory {
         tree: words[at],
-        last_known_closed_len: known_of(words[at + 1], words[at + 2]),
-        solution: solution_of(words[at + 3], words[at + 4]),
+        last_known_closed_len: option_of(words[at + 1], words[at + 2]),
+        solution: option_of(words[at + 3], words[at + 4]),
     }
 }
 
-fn known_of(tag: u32, number: u32) -> KnownLen
-    ensures { result ≡ known_of tag number }
+fn option_of(tag: u32, number: u32) -> Option<u32>
+    ensures { result ≡ option_of tag number }
 {
     if tag == 0 {
-        return KnownLen::Never;
+        return None;
     }
-    KnownLen::Len(number)
-}
-
-fn solution_of(tag: u32, number: u32) -> Solution
-    ensures { result ≡ solution_of tag number }
-{
-    if tag == 0 {
-        return Solution::Unsolved;
-    }
-    Solution::At(number)
+    Some(number)
 }
 
 // Writes the record in front of the words; words past it stay.
@@ -179,52 +150,37 @@ pub fn encode(search: Search, words: &mut [u32])
     words[0] = search.exhausted as u32;
     words[ENTRY_COUNT] = search.tree_count;
     words[GOAL_COUNT] = search.goal_count;
-    let best = search.best_solution;
-    encode_best(best, words);
-    let goals = search.goal_keys;
-    encode_goals(goals, words);
-    let trees = search.trees;
-    encode_entries(trees, words);
+    encode_best(search.best_solution, words);
+    encode_goals(search.goal_keys, words);
+    encode_entries(search.trees, words);
 }
 
-fn encode_best(best: BestSolution, words: &mut [u32])
+fn encode_best(best: Option<BestSolution>, words: &mut [u32])
     requires { goals_at ≤ length words.old }
     ensures { words.new ≡ sets words.old best_at (best_words best) }
 {
-    match best {
-        BestSolution::NoBest => {
-            words[BEST] = 0;
-            words[BEST + 1] = 0;
-            words[BEST + 2] = 0;
-        }
-        BestSolution::Best { entry, node } => {
-            words[BEST] = 1;
-            words[BEST + 1] = entry;
-            words[BEST + 2] = node;
-        }
-    }
+    let (tag, entry, node) = match best {
+        None => (0, 0, 0),
+        Some(b) => (1, b.entry, b.node),
+    };
+    words[BEST] = tag;
+    words[BEST + 1] = entry;
+    words[BEST + 2] = node;
 }
 
 fn encode_goals(goals: [u32; MAX_ENTRIES], words: &mut [u32])
     requires { entries_at ≤ length words.old }
     ensures { words.new ≡ sets words.old goals_at goals }
 {
-    let mut i = 0;
-    while i < MAX_ENTRIES {
-        words[GOALS + i] = goals[i];
-        i += 1;
-    }
+    words[GOALS..GOALS + MAX_ENTRIES].copy_from_slice(&goals);
 }
 
 fn encode_entries(trees: [TreeMemory; MAX_ENTRIES], words: &mut [u32])
     requires { record_words ≤ length words.old }
     ensures { words.new ≡ sets words.old entries_at (entries_words trees) }
 {
-    let mut i = 0;
-    while i < MAX_ENTRIES {
-        let memory = trees[i];
-        encode_entry(memory, words, ENTRIES + ENTRY * i);
-        i += 1;
+    for (i, memory) in trees.iter().enumerate() {
+        encode_entry(*memory, words, ENTRIES + ENTRY * i);
     }
 }
 
@@ -233,36 +189,14 @@ fn encode_entry(memory: TreeMemory, words: &mut [u32], at: usize)
     ensures { words.new ≡ sets words.old at (entry_words memory) }
 {
     words[at] = memory.tree;
-    let known = memory.last_known_closed_len;
-    encode_known(known, words, at + 1);
-    let solution = memory.solution;
-    encode_solution(solution, words, at + 3);
+    encode_option(memory.last_known_closed_len, words, at + 1);
+    encode_option(memory.solution, words, at + 3);
 }
 
-fn encode_known(known: KnownLen, words: &mut [u32], at: usize)
+fn encode_option(number: Option<u32>, words: &mut [u32], at: usize)
     requires { at + 2 ≤ length words.old }
-    ensures { words.new ≡ sets words.old at (known_words known) }
+    ensures { words.new ≡ sets words.old at (option_words number) }
 {
-    match known {
-        KnownLen::Never => put_option(words, at, 0, 0),
-        KnownLen::Len(number) => put_option(words, at, 1, number),
-    }
-}
-
-fn encode_solution(solution: Solution, words: &mut [u32], at: usize)
-    requires { at + 2 ≤ length words.old }
-    ensures { words.new ≡ sets words.old at (solution_words solution) }
-{
-    match solution {
-        Solution::Unsolved => put_option(words, at, 0, 0),
-        Solution::At(node) => put_option(words, at, 1, node),
-    }
-}
-
-fn put_option(words: &mut [u32], at: usize, tag: u32, number: u32)
-    requires { at + 2 ≤ length words.old }
-    ensures { words.new ≡ sets words.old at (tag ∷ number ∷ []) }
-{
-    words[at] = tag;
-    words[at + 1] = number;
+    words[at] = number.is_some() as u32;
+    words[at + 1] = number.unwrap_or(0);
 }

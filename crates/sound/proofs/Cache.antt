@@ -13,20 +13,19 @@ use Rattle.model.specs.Lists.{allb, upto, mem, numbers}
 use Rattle.model.specs.Graph.{Domain, absent, vertex_count}
 use Rattle.model.specs.Tree.{Tree}
 use Rattle.model.specs.Sound.{starts, distinctb}
-use Rattle.model.proofs.Bools.{and-true, true-and, all_true, upto-at}
+use Rattle.model.proofs.Bools.{and-true, true-and, upto-at}
 use Rattle.model.proofs.Lists.{numbers-snoc}
 use Rattle.model.proofs.Tests.{distinct-at, at-distinct}
-use Rattle.layout.specs.Layout.{Sized, header_words, edges_at, slot_at, direction_in, edges_in, initial_in, slots_in, start_in, trees_in, vertices_in}
+use Rattle.layout.specs.Layout.{edges_at, slot_at, direction_in, edges_in, initial_in, slots_in, start_in, trees_in, vertices_in}
 use Rattle.layout.specs.Read.{direction_of, graph_in, domain_in, domain_of, tree_in, read_trees, read_cache}
-use Rattle.layout.specs.Sound.{header_tests, initialb, edge_tests, indexb, graph_tests, zerosb, tree_wordsb, trees_tests, sound_wordsb}
-use Rattle.layout.proofs.Sizes.{slots-fit}
+use Rattle.layout.specs.Sound.{header_tests, initialb, edge_tests, indexb, graph_tests, zerosb, tree_wordsb, trees_tests}
 use Rattle.layout.proofs.Edges.{vertex-count-in, edge-count-in}
 use Rattle.layout.specs.Slots.{slot_words, HasSlot}
 use Rattle.layout.proofs.SlotWords.{slot-words-length}
 use Rattle.graph.specs.Write.{WritesIndex}
-use Rattle.sound_tree.specs.Check.{CanCheck, Marked}
+use Rattle.sound_tree.specs.Check.{Marked}
 use Rattle.sound.specs.Check.{HasGraph, CanCheckTrees, TreesIn, treesb}
-use Rattle.model.proofs.InTurn.{one_more, all-passed, all-fails, read-last}
+use Rattle.model.proofs.InTurn.{one_more, all-passed}
 use Rattle.sound.proofs.Header.{headed}
 use Rattle.sound_tree.proofs.Marks.{distinct_snoc, marked-none, marked_more}
 use Rattle.sound.proofs.Held.{held_at, initials-as, edges-from, edges-to}
@@ -41,9 +40,6 @@ fails false f = refl
 -- ---- the graph
 
 module _ (ws : List ℕ) (header : allb (header_tests ws) ≡ true) where
-  pub has-header : header_words ≤ length ws
-  has-header = (headed ws header).header
-
   pub has-initials : {m : ℕ} → m ≡ vertices_in ws → edges_at m ≤ length ws
   has-initials e = omega (arith, (headed ws header).fits)
 
@@ -73,28 +69,17 @@ module _ (ws : List ℕ) (header : allb (header_tests ws) ≡ true) where
     unfolding read_cache
     index = λ i. indexb (domain_in (direction_of (direction_in ws)) (em i) (el i) ws) ws
 
-    pub initials-fail : {a : Bool} → a ≡ upto (λ v. initialb (initial_in ws v)) m → not a ≡ true → false ≡ allb (graph_tests d ws)
-    initials-fail {a} ea n = sym (all-fails (graph_tests d ws) 0 (sym (ea ∙ initials) ∙ not-true a n))
+    pub can-index : upto (λ e. allb (edge_tests (graph_in m l ws) e)) l ≡ true → WritesIndex ws m l
+    can-index passed = record {
+      sized = has-graph.sized;
+      fits = omega (arith, (headed ws header).fits);
+      from = edges-from m l ws (has-initials em) passed;
+      to = edges-to m l ws (has-initials em) passed;
+    }
 
-    pub edges-fail : {b : Bool} → b ≡ upto (λ e. allb (edge_tests (graph_in m l ws) e)) l → not b ≡ true → false ≡ allb (graph_tests d ws)
-    edges-fail {b} eb n = sym (all-fails (graph_tests d ws) 1 (sym (eb ∙ edges) ∙ not-true b n))
-
-    pub can-index : {b : Bool} → b ≡ upto (λ e. allb (edge_tests (graph_in m l ws) e)) l → not b ≡ false → WritesIndex ws m l
-    can-index {b} eb n =
-        let passed = sym eb ∙ not-false b n in
-        record {
-          sized = has-graph.sized;
-          fits = omega (arith, (headed ws header).fits);
-          from = edges-from m l ws (has-initials em) passed;
-          to = edges-to m l ws (has-initials em) passed;
-        }
-
-    pub graph-last : {a b r : Bool} → a ≡ upto (λ v. initialb (initial_in ws v)) m → not a ≡ false
-        → b ≡ upto (λ e. allb (edge_tests (graph_in m l ws) e)) l → not b ≡ false
-        → r ≡ indexb (domain_in (direction_of (direction_in ws)) m l ws) ws → r ≡ allb (graph_tests d ws)
-    graph-last {a} {b} ea na eb nb er =
-        er ∙ index
-        ∙ read-last {cs = graph_tests d ws} refl 2 refl (sym (ea ∙ initials) ∙ not-false a na) (sym (eb ∙ edges) ∙ not-false b nb)
+    pub graph-reads : allb (graph_tests d ws)
+        ≡ allb (upto (λ v. initialb (initial_in ws v)) m ∷ upto (λ e. allb (edge_tests (graph_in m l ws) e)) l ∷ indexb (domain_in (direction_of (direction_in ws)) m l ws) ws ∷ [])
+    graph-reads = λ i. allb (sym initials i ∷ sym edges i ∷ sym index i ∷ [])
 
 -- ---- the trees in use, one after the other
 
@@ -149,12 +134,6 @@ module _ {i n : ℕ} {ws : List ℕ} (ok : TreesIn n ws) (h : i < n) where
 
   -- the counts are read as m and l, the slot's words as t
   module _ {m l : ℕ} {t : List ℕ} (em : m ≡ vertices_in ws) (el : l ≡ edges_in ws) (et : t ≡ own ws i) where
-    pub can-check : CanCheck m l ws t
-    can-check = rw (em, el, et) (record { held = ok.held; len = slot-words-length has-slot })
-
-    pub has-start : 0 < length t
-    has-start = omega (arith, can-check.len)
-
     module _ {r : Bool} (er : r ≡ tree_wordsb (domain_of m l ws) ws m l t) where
       answer : r ≡ treeb ws i
       answer = er ∙ (λ j. tree_wordsb (domain_of (em j) (el j) ws) ws (em j) (el j) (et j))
@@ -204,18 +183,15 @@ module _ {i n : ℕ} {ws : List ℕ} (ok : TreesIn n ws) (h : i < n) where
           pub starts-marked : Marked (set marks s true) 1024 (starts_to ws (i + 1))
           starts-marked = rw (starts_more ws i, start_is) (marked_more marked start_small)
 
-pub trees-all : {i n : ℕ} (ws : List ℕ) → i ≤ n → n ≤ i → treesb i ws ≡ true → true ≡ treesb n ws
-trees-all {i} {n} ws h k e = let end : i ≡ n = omega arith in sym (rw end at e)
-
 -- ---- all slots
 
+two_and_one : (a b c : Bool) → allb (a ∷ b ∷ c ∷ []) ≡ ((a && b) && c)
+two_and_one true true true = refl
+two_and_one true true false = refl
+two_and_one true false c = refl
+two_and_one false b c = refl
+
 module _ {ws : List ℕ} (can : CanCheckTrees ws) where
-  pub trees-header : header_words ≤ length ws
-  trees-header = has-header ws can.header
-
-  pub slots-few : {s : ℕ} → s ≡ slots_in ws → s ≤ 64
-  slots-few es = rw es (headed ws can.header).slots
-
   pub trees-few : {u : ℕ} → u ≡ trees_in ws → u ≤ 64
   trees-few eu = let h = headed ws can.header in rw eu (omega (arith, h.used, h.slots))
 
@@ -231,61 +207,19 @@ module _ {ws : List ℕ} (can : CanCheckTrees ws) where
           fits = omega (arith, h.fits, slot-order (vertices_in ws) (edges_in ws) h.used);
         })
 
-    module _ {r : Bool} (er : r ≡ treesb u ws) where
-      answers : r ≡ treesb (trees_in ws) ws
-      answers = er ∙ ap (λ (n : ℕ). treesb n ws) eu
+  module _ {m l u : ℕ} (em : m ≡ vertices_in ws) (el : l ≡ edges_in ws) (eu : u ≡ trees_in ws) where
+    -- the slots not in use stand from `at` up to `end`
+    module _ {s at end : ℕ} (es : s ≡ slots_in ws) (ea : at ≡ slot_at m l u) (ee : end ≡ slot_at m l s) where
+      spare : zerosb (mid_of at (end - at) ws) ≡ get_or (trees_tests ws) 2 true
+      spare =
+          (λ i. zerosb (mid_of (ea i) (ee i - ea i) ws))
+          ∙ (λ i. zerosb (mid_of (slot_at (em i) (el i) (eu i)) (slot_at (em i) (el i) (es i) - slot_at (em i) (el i) (eu i)) ws))
 
-      pub trees-fail : not r ≡ true → false ≡ allb (trees_tests ws)
+      pub trees-reads : allb (trees_tests ws) ≡ (treesb u ws && zerosb (mid_of at (end - at) ws))
       unfolding treesb read_cache
-      trees-fail e = fails _ (λ p.
-          let t = all_true (trees_tests ws) p in
-          true≢false (sym (true-and _ _ t.0 t.1.0) ∙ sym answers ∙ not-true r e))
+      trees-reads =
+          two_and_one (get_or (trees_tests ws) 0 true) (get_or (trees_tests ws) 1 true) (get_or (trees_tests ws) 2 true)
+          ∙ (λ i. treesb (sym eu i) ws && sym spare i)
 
-  module _ {m l : ℕ} (em : m ≡ vertices_in ws) (el : l ≡ edges_in ws) where
-    pub trees-sized : Sized m l
-    trees-sized = rw (em, el) (headed ws can.header).sized
-
-    module _ {u : ℕ} (eu : u ≡ trees_in ws) where
-      -- the slots not in use, from `at` up to `end`
-      module _ {r : Bool} (er : r ≡ treesb u ws) where
-        module _ (e : not r ≡ false) {s at end : ℕ} (es : s ≡ slots_in ws) (ea : at ≡ slot_at m l u) (ee : end ≡ slot_at m l s) where
-          pub trees-last : {z : Bool} → z ≡ zerosb (mid_of at (end - at) ws) → z ≡ allb (trees_tests ws)
-          unfolding treesb read_cache
-          trees-last ez =
-              let t = and-true _ _ (sym (answers eu er) ∙ not-false r e) in
-              ez
-              ∙ (λ i. zerosb (mid_of (ea i) (ee i - ea i) ws))
-              ∙ (λ i. zerosb (mid_of (slot_at (em i) (el i) (eu i)) (slot_at (em i) (el i) (es i) - slot_at (em i) (el i) (eu i)) ws))
-              ∙ read-last {cs = trees_tests ws} refl 2 refl t.0 t.1
-
-      pub spare-small : {at : ℕ} → at ≡ slot_at m l u → at ≤ 800000
-      spare-small ea = omega (arith, slots-fit trees-sized (trees-few eu), trees-sized.vertices, trees-sized.edges)
-
-      pub spare-from : {s at end : ℕ} → s ≡ slots_in ws → at ≡ slot_at m l u → end ≡ slot_at m l s → at ≤ end
-      spare-from {s} es ea ee = let used : u ≤ s = omega (arith, (headed ws can.header).used) in omega (arith, slot-order m l used)
-
-    pub spare-fits : {s end : ℕ} → s ≡ slots_in ws → end ≡ slot_at m l s → end ≤ length ws
-    spare-fits es ee = rw (ee, em, el, es) (headed ws can.header).fits
-
--- ---- the whole
-
-module _ (ws : List ℕ) {a : Bool} (ea : a ≡ allb (header_tests ws)) where
-  pub header-fails : not a ≡ true → false ≡ sound_wordsb ws
-  unfolding sound_wordsb
-  header-fails e = fails _ (λ p. true≢false (sym (and-true (allb (header_tests ws)) _ p).0 ∙ sym ea ∙ not-true a e))
-
-  module _ (na : not a ≡ false) where
-    pub header-passed : allb (header_tests ws) ≡ true
-    header-passed = sym ea ∙ not-false a na
-
-    module _ {b : Bool} (eb : b ≡ allb (graph_tests (read_cache ws).domain ws)) where
-      pub graph-fails : not b ≡ true → false ≡ sound_wordsb ws
-      unfolding sound_wordsb
-      graph-fails e = fails _ (λ p. true≢false (sym (and-true _ (allb (trees_tests ws)) (and-true (allb (header_tests ws)) _ p).1).0 ∙ sym eb ∙ not-true b e))
-
-      pub graph-passed : not b ≡ false → CanCheckTrees ws
-      graph-passed nb = record { header = header-passed; graph = sym eb ∙ not-false b nb }
-
-      pub trees-decide : not b ≡ false → {r : Bool} → r ≡ allb (trees_tests ws) → r ≡ sound_wordsb ws
-      unfolding sound_wordsb
-      trees-decide nb er = rw (header-passed, (graph-passed nb).graph) er
+    pub spare-from : {s at end : ℕ} → s ≡ slots_in ws → at ≡ slot_at m l u → end ≡ slot_at m l s → at ≤ end
+    spare-from {s} es ea ee = let used : u ≤ s = omega (arith, (headed ws can.header).used) in omega (arith, slot-order m l used)

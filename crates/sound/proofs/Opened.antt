@@ -2,6 +2,7 @@
 -- they are such as opening writes.
 -- Assumes nothing.
 use mathlib.Core.Path.{◌≡◌, refl, sym, ap, ap₂, ◌∙◌, subst}
+use Rattle.std.specs.Prelude.{Ok}
 use mathlib.Core.Logic.{◌≢◌}
 use mathlib.Core.Bool.{true, ◌&&◌}
 use mathlib.Core.List.{List, ◌++◌}
@@ -11,7 +12,6 @@ use native.Mathlib.Nat.{add-zero}
 use native.Mathlib.Omega.{arith}
 use borrow.Author.Tests.{le-leb, le-ltb}
 use lib.ListN.{length, get_or, drop, length-append}
-use Rattle.model.specs.declared.OpenAnswer.TheVariants.{Opened}
 use Rattle.model.specs.Lists.{allb}
 use Rattle.model.specs.Graph.{Graph, Direction, forward, backward, Domain, Accepted, vertex_count, edge_count, from, to, cost, domain, edge_numbers}
 use Rattle.model.specs.Calls.{Cache, opened, written}
@@ -173,7 +173,7 @@ module _ (ws : List ℕ) where
     left = written (opened_words dir text_graph slots) ws
 
     -- the opening is accepted
-    accepts : after_open Opened left ≡ open_cache ws (printed text_graph) (direction_in ws) slots
+    accepts : after_open (Ok tt) left ≡ open_cache ws (printed text_graph) (direction_in ws) slots
     unfolding open_cache
     accepts =
         rw (
@@ -202,7 +202,7 @@ module _ (ws : List ℕ) where
     writes = record {
       text = printed text_graph;
       left = left;
-      opens = (demand-1 ws (printed text_graph) (direction_in ws) slots Opened left accepts).opened refl;
+      opens = (demand-1 ws (printed text_graph) (direction_in ws) slots (Ok tt) left accepts).opened refl;
       same = λ j h n. elim (dec_lt j header_words) [
         | yes k ↦ header-same j k n
         | no k ↦ graph-words vertices edges left ws (held-as dir text_graph slots rest accepted vertices edges counts) held same-domain j (omega arith) h

@@ -12,22 +12,17 @@ ghost use Rattle.layout.specs.Read.{read_cache, graph_in};
 ghost use Rattle.layout.specs.Sound.{header_tests, initialb, edge_tests, graph_tests, trees_tests, sound_wordsb};
 ghost use Rattle.sound.specs.Check.{CanCheckTrees, HasGraph, TreesIn, treesb};
 
+use layout::GraphSize;
 use layout::slots::slot_words;
-use layout::wide;
 use model::limits::{MAX_COST, MAX_EDGES, MAX_SLOTS, MAX_VERTICES};
 use sound_tree::{is_zero, tree_is_sound};
 
 // Whether the words are those of a sound cache.
+#[tactic(auto, unfolding(layout::specs::Sound::sound_wordsb))]
 pub fn is_sound(words: &[u32]) -> bool
     ensures { result ≡ sound_wordsb words.now }
 {
-    if !header_is_sound(words) {
-        return false;
-    }
-    if !graph_is_sound(words) {
-        return false;
-    }
-    trees_are_sound(words)
+    header_is_sound(words) && graph_is_sound(words) && trees_are_sound(words)
 }
 
 fn header_is_sound(words: &[u32]) -> bool
@@ -36,57 +31,33 @@ fn header_is_sound(words: &[u32]) -> bool
     if words.len() <= layout::TREES {
         return false;
     }
-    if 1 < words[layout::DIRECTION] {
-        return false;
-    }
     let vertices = layout::header(words, layout::VERTICES);
     let edges = layout::header(words, layout::EDGES);
     let slots = layout::header(words, layout::SLOTS);
-    if MAX_VERTICES < vertices {
-        return false;
-    }
-    if MAX_EDGES < edges {
-        return false;
-    }
-    if slots == 0 {
-        return false;
-    }
-    if MAX_SLOTS < slots {
-        return false;
-    }
-    if slots < layout::header(words, layout::TREES) {
-        return false;
-    }
-    layout::words_needed(vertices, edges, slots) <= words.len()
+    words[layout::DIRECTION] <= 1
+        && vertices <= MAX_VERTICES
+        && edges <= MAX_EDGES
+        && 0 < slots
+        && slots <= MAX_SLOTS
+        && layout::header(words, layout::TREES) <= slots
+        && GraphSize { vertices, edges }.words_needed(slots) <= words.len()
 }
 
 fn graph_is_sound(words: &[u32]) -> bool
     requires { allb (header_tests words.now) ≡ true }
     ensures { result ≡ allb (graph_tests (read_cache words.now).domain words.now) }
 {
-    let vertices = layout::header(words, layout::VERTICES);
-    let edges = layout::header(words, layout::EDGES);
-    if !initials_are_sound(words, vertices) {
-        return false;
-    }
-    if !edges_are_sound(words, vertices, edges) {
-        return false;
-    }
-    graph::simple::index_is_sound(words, words[layout::DIRECTION], vertices, edges)
+    let size = layout::graph_size(words);
+    initials_are_sound(words, size.vertices)
+        && edges_are_sound(words, size)
+        && graph::simple::index_is_sound(words, words[layout::DIRECTION], size)
 }
 
 fn initials_are_sound(words: &[u32], vertices: usize) -> bool
     requires { initial_at + vertices ≤ length words.now }
     ensures { result ≡ upto (λ v. initialb (initial_in words.now v)) vertices }
 {
-    let mut v = 0;
-    while v < vertices {
-        if !initial_is_sound(words, v) {
-            return false;
-        }
-        v += 1;
-    }
-    true
+    (0..vertices).all(|v| initial_is_sound(words, v))
 }
 
 fn initial_is_sound(words: &[u32], vertex: usize) -> bool
@@ -94,53 +65,37 @@ fn initial_is_sound(words: &[u32], vertex: usize) -> bool
     ensures { result ≡ initialb (initial_in words.now vertex) }
 {
     let cost = layout::initial_cost(words, vertex);
-    if cost == layout::ABSENT {
-        return true;
-    }
-    wide(cost) <= MAX_COST
+    cost == layout::ABSENT || cost as usize <= MAX_COST
 }
 
-fn edges_are_sound(words: &[u32], vertices: usize, edges: usize) -> bool
-    requires { HasGraph vertices edges words.now }
-    ensures { result ≡ upto (λ e. allb (edge_tests (graph_in vertices edges words.now) e)) edges }
+fn edges_are_sound(words: &[u32], size: GraphSize) -> bool
+    requires { HasGraph size.vertices size.edges words.now }
+    ensures { result ≡ upto (λ e. allb (edge_tests (graph_in size.vertices size.edges words.now) e)) size.edges }
 {
-    let mut e = 0;
-    while e < edges {
-        if !edge_is_sound(words, vertices, edges, e) {
-            return false;
-        }
-        e += 1;
-    }
-    true
+    (0..size.edges).all(|e| edge_is_sound(words, size, e))
 }
 
-fn edge_is_sound(words: &[u32], vertices: usize, edges: usize, edge: usize) -> bool
-    requires { HasGraph vertices edges words.now × (edge < edges) }
-    ensures { result ≡ allb (edge_tests (graph_in vertices edges words.now) edge) }
+#[tactic(auto, using(crate::proofs::Header::edge_reads))]
+fn edge_is_sound(words: &[u32], size: GraphSize, edge: usize) -> bool
+    requires { HasGraph size.vertices size.edges words.now × (edge < size.edges) }
+    ensures { result ≡ allb (edge_tests (graph_in size.vertices size.edges words.now) edge) }
 {
-    if vertices <= wide(layout::edge_from(words, vertices, edge)) {
-        return false;
-    }
-    if vertices <= wide(layout::edge_to(words, vertices, edge)) {
-        return false;
-    }
-    wide(layout::edge_cost(words, vertices, edge)) <= MAX_COST
+    let vertices = size.vertices;
+    (layout::edge_from(words, vertices, edge) as usize) < vertices
+        && (layout::edge_to(words, vertices, edge) as usize) < vertices
+        && layout::edge_cost(words, vertices, edge) as usize <= MAX_COST
 }
 
 fn trees_are_sound(words: &[u32]) -> bool
     requires { CanCheckTrees words.now }
     ensures { result ≡ allb (trees_tests words.now) }
 {
-    let vertices = layout::header(words, layout::VERTICES);
-    let edges = layout::header(words, layout::EDGES);
+    let size = layout::graph_size(words);
     let trees = layout::header(words, layout::TREES);
     let mut starts = [false; MAX_VERTICES];
-    if !trees_in_use_are_sound(words, trees, &mut starts[0..MAX_VERTICES]) {
-        return false;
-    }
-    let at = layout::slot_at(vertices, edges, trees);
-    let end = layout::slot_at(vertices, edges, layout::header(words, layout::SLOTS));
-    is_zero(&words[at..end])
+    let at = size.slot_at(trees);
+    let end = size.slot_at(layout::header(words, layout::SLOTS));
+    trees_in_use_are_sound(words, trees, &mut starts[0..MAX_VERTICES]) && is_zero(&words[at..end])
 }
 
 // The slots in use, with a mark for each vertex at which a tree starts. All marks are off at first.
@@ -150,18 +105,16 @@ fn trees_in_use_are_sound(words: &[u32], trees: usize, starts: &mut [bool]) -> b
 {
     let vertices = layout::header(words, layout::VERTICES);
     let edges = layout::header(words, layout::EDGES);
-    let mut i = 0;
-    while i < trees {
+    for i in 0..trees {
         let tree = slot_words(words, i);
         if !tree_is_sound(words, vertices, edges, tree) {
             return false;
         }
-        let start = wide(tree[layout::START]);
+        let start = tree[layout::START] as usize;
         if starts[start] {
             return false;
         }
         starts[start] = true;
-        i += 1;
     }
     true
 }

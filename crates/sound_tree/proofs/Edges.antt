@@ -2,10 +2,11 @@
 -- Assumes nothing.
 use mathlib.Core.Path.{◌≡◌, refl, sym, ap, ◌∙◌}
 use mathlib.Core.Logic.{◌⊎◌, inl, inr, ◌≢◌}
-use mathlib.Core.Bool.{Bool, true, not, ◌&&◌}
+use mathlib.Core.Bool.{Bool, true, false, not, cond, ◌&&◌, ◌||◌}
 use mathlib.Core.List.{List, []}
 use Prim.Native.Nat.{ℕ, zero, suc, ◌+◌, ◌-◌, ◌<◌, ◌≤◌}
 use native.Mathlib.Omega.{arith}
+use native.Mathlib.Decide.{ℕ_discrete, dec_lt}
 use native.Mathlib.Numerals.{add-one}
 use lib.Dec.{eqb, leb, ltb}
 use lib.ListN.{length, get_or, length-append}
@@ -54,13 +55,9 @@ module _ {m l : ℕ} {ws : List ℕ} (h : Held m l ws) {e : ℕ} (k : e < l) whe
       (same, omega (arith, h.accepted.costs e usable))
 
 -- the closed word of the vertex that an edge leaves is there; f is read as the vertex, a as where closed words begin
-module _ {m l : ℕ} {ws t : List ℕ} (can : CanCheck m l ws t) {e : ℕ} (k : e < l) {a f₀ f : ℕ} (p : a ≡ closed_words_at l) (q₀ : f₀ ≡ from_in m ws e) (q : f ≡ f₀) where
+module _ {m l : ℕ} {ws t : List ℕ} (can : CanCheck m l ws t) {e : ℕ} (k : e < l) {a f : ℕ} (p : a ≡ closed_words_at l) (q : f ≡ from_in m ws e) where
   pub closed-there : a + f < length t
-  closed-there = omega (arith, can.len, edge-from can.held k (q ∙ q₀))
-
-  -- as a machine's number
-  pub closed-small : a + f ≤ 20000
-  closed-small = omega (arith, edge-from can.held k (q ∙ q₀), can.held.sized.vertices, can.held.sized.edges)
+  closed-there = omega (arith, can.len, edge-from can.held k q)
 
 -- the closed word of vertex v, as the code reads it
 pub closed-word : (ws : List ℕ) (m l : ℕ) {a x v : ℕ} (t : List ℕ) → a ≡ closed_words_at l → x ≡ v → x < m → get_or t (a + x) 0 ≡ closed_at (tree_in ws m l t).closed v
@@ -71,36 +68,29 @@ closed-word ws m l t p q h = rw (p, ← q) (sym (tree-closed ws m l t _ h))
 abbrev leaves_closed : ℕ → ℕ → List ℕ → List ℕ → ℕ → Bool
 leaves_closed m l ws t e = not (eqb (closed_at (tree_in ws m l t).closed (from (domain_of m l ws).graph e)) 0)
 
--- c of the first n edges leave closed vertices
-pub record CountTo (m l : ℕ) (ws t : List ℕ) (n c : ℕ) : Type 0 where
-  pub place : n ≤ l
-  pub few : c ≤ n
-  count : c ≡ length (those (leaves_closed m l ws t) (numbers n))
+-- so many of the first n edges leave closed vertices
+pub leaving : ℕ → ℕ → List ℕ → List ℕ → ℕ → ℕ
+leaving m l ws t n = length (those (leaves_closed m l ws t) (numbers n))
 
-pub count_none : (m l : ℕ) (ws t : List ℕ) → CountTo m l ws t 0 0
-unfolding those
-count_none m l ws t = record { place = omega arith; few = omega arith; count = refl }
+pub leaving_none : (m l : ℕ) (ws t : List ℕ) → leaving m l ws t 0 ≡ 0
+unfolding leaving those
+leaving_none m l ws t = refl
 
-module _ {m l : ℕ} {ws t : List ℕ} {n c : ℕ} (w : CountTo m l ws t n c) where
-  pub count-all : l ≤ n → c ≡ length (closed_edges (domain_of m l ws).graph (tree_in ws m l t).closed)
-  unfolding closed_edges
-  count-all e =
-      let all : n ≡ edge_count (domain_of m l ws).graph = omega (arith, w.place, e, edge-count-in m l ws) in
-      rw all at w.count
+pub leaving_next : (m l : ℕ) (ws t : List ℕ) (n : ℕ) → CanCheck m l ws t → n < l
+    → leaving m l ws t (n + 1) ≡ leaving m l ws t n + cond (eqb (get_or t (closed_words_at l + from_in m ws n) 0) 0) 0 1
+unfolding leaving
+leaving_next m l ws t n can k =
+    let ends = edge-from can.held k refl in
+    let word = closed-word ws m l t refl ends.0 ends.1 in
+    rw (add-one, numbers-snoc n, those-snoc (leaves_closed m l ws t) (numbers n) n, length-append, ← word) (ap (λ (x : ℕ). length (those (leaves_closed m l ws t) (numbers n)) + x) (one (eqb (get_or t (closed_words_at l + from_in m ws n) 0) 0)))
+  where
+    one : (b : Bool) → length (keep (not b) n []) ≡ cond b 0 1
+    one true = refl
+    one false = refl
 
-  -- edge n leaves a closed vertex or an open one; a: where closed words begin, f: the vertex
-  module _ (can : CanCheck m l ws t) (k : n < l) {a f₀ f : ℕ} (p : a ≡ closed_words_at l) (q₀ : f₀ ≡ from_in m ws n) (q : f ≡ f₀) where
-    next : {d x : ℕ} → d ≡ c + x → x ≡ length (keep (not (eqb (get_or t (a + f) 0) 0)) n []) → length (those (leaves_closed m l ws t) (numbers (n + 1))) ≡ d
-    next {d} {x} e g =
-        let ends = edge-from can.held k (q ∙ q₀) in
-        let word = closed-word ws m l t p ends.0 ends.1 in
-        rw (add-one, numbers-snoc n, those-snoc (leaves_closed m l ws t) (numbers n) n, length-append, ← w.count, ← word) (sym (e ∙ ap (λ (j : ℕ). c + j) g))
-
-    pub count-closed : get_or t (a + f) 0 ≢ 0 → {d : ℕ} → d ≡ c + 1 → CountTo m l ws t (n + 1) d
-    count-closed z e = record { place = omega arith; few = omega (arith, w.few); count = sym (next e (rw (ne_eqb (get_or t (a + f) 0) 0 z))) }
-
-    pub count-open : get_or t (a + f) 0 ≡ 0 → {d : ℕ} → d ≡ c → CountTo m l ws t (n + 1) d
-    count-open z e = record { place = omega arith; few = omega (arith, w.few); count = sym (next {x = 0} (omega arith) (rw (eq-eqb (get_or t (a + f) 0) 0 z))) }
+pub leaving_all : (m l : ℕ) (ws t : List ℕ) → length (closed_edges (domain_of m l ws).graph (tree_in ws m l t).closed) ≡ leaving m l ws t l
+unfolding leaving closed_edges
+leaving_all m l ws t = rw (edge-count-in m l ws)
 
 -- ---- closed words
 
@@ -152,6 +142,19 @@ module _ {m l : ℕ} {ws t costs : List ℕ} (h : LeadsOn m l ws t costs) {a x :
   unfolding reachedb
   reached-shut {s} n b = rw (is-suc n, closer-cost n, le-leb (evaluation_in t (word - 1)) s b)
 
+  reached-reads : {s : ℕ} → s < no_cost → reachedb u.nodes u.waiting u.closed x s ≡ ((not (eqb word 0) && leb (evaluation_in t (word - 1)) s) || leb (get_or costs x 0) s)
+  reached-reads {s} small = elim (ℕ_discrete word 0) [
+    | yes z ↦ sym (reached-waits small (inl z)) ∙ ap (λ (b : Bool). (not b && leb (evaluation_in t (word - 1)) s) || leb (get_or costs x 0) s) (sym (eq-eqb word 0 z))
+    | no n ↦ elim (dec_lt s (evaluation_in t (word - 1))) [
+      | yes c ↦
+          sym (reached-waits small (inr (n, c)))
+          ∙ (λ i. (not (sym (ne_eqb word 0 n) i) && sym (lt-leb (evaluation_in t (word - 1)) s c) i) || leb (get_or costs x 0) s)
+      | no c ↦
+          reached-shut n (omega arith)
+          ∙ (λ i. (not (sym (ne_eqb word 0 n) i) && sym (le-leb (evaluation_in t (word - 1)) s (omega arith)) i) || leb (get_or costs x 0) s)
+    ]
+  ]
+
 -- ---- whether an edge leads on
 
 -- edge e leaves a closed vertex: it leads on if its end o is reached at no more than the sum s. a: where the closed words begin
@@ -162,12 +165,12 @@ pub record Sum (m l : ℕ) (ws t costs : List ℕ) (e a o s : ℕ) : Type 0 wher
   small : s < no_cost
   leads : onwardb (domain_of m l ws) (tree_in ws m l t) e ≡ reachedb (tree_in ws m l t).nodes (tree_in ws m l t).waiting (tree_in ws m l t).closed o s
 
-module _ {m l e : ℕ} {ws t costs : List ℕ} (h : LeadsOn m l ws t costs) (k : e < l) {a f₀ f : ℕ} (p : a ≡ closed_words_at l) (q₀ : f₀ ≡ from_in m ws e) (q : f ≡ f₀) where
+module _ {m l e : ℕ} {ws t costs : List ℕ} (h : LeadsOn m l ws t costs) (k : e < l) {a f : ℕ} (p : a ≡ closed_words_at l) (q : f ≡ from_in m ws e) where
   leaves : (f ≡ from (domain_of m l ws).graph e) × (f < m)
-  leaves = edge-from h.hung.counted.can.held k (q ∙ q₀)
+  leaves = edge-from h.hung.counted.can.held k q
 
   pub onward-place : a + f < length t
-  onward-place = closed-there h.hung.counted.can k p q₀ q
+  onward-place = closed-there h.hung.counted.can k p q
 
   pub onward-open : get_or t (a + f) 0 ≡ 0 → true ≡ onwardb (domain_of m l ws) (tree_in ws m l t) e
   onward-open z = sym (rw (← leaves.0, ← word-is h p leaves.1, z))
@@ -190,9 +193,9 @@ module _ {m l e : ℕ} {ws t costs : List ℕ} (h : LeadsOn m l ws t costs) (k :
       pub sum_fits : x + y < 18446744073709551616
       sum_fits = omega (arith, small-sum)
 
-      pub sums : {o₀ o : ℕ} → o₀ ≡ to_in m ws e → o ≡ o₀ → Sum m l ws t costs e a o (x + y)
-      sums r₀ r =
-          let enters = edge_to h.hung.counted.can.held k (r ∙ r₀) in
+      pub sums : {o : ℕ} → o ≡ to_in m ws e → Sum m l ws t costs e a o (x + y)
+      sums r =
+          let enters = edge_to h.hung.counted.can.held k r in
           record {
             on = h;
             words = p;
@@ -211,12 +214,8 @@ module _ {m l : ℕ} {ws t costs : List ℕ} {e a o s : ℕ} (w : Sum m l ws t c
   pub reached-closer : get_or t (a + o) 0 ≢ 0 → node_end (get_or t (a + o) 0 - 1) ≤ length t
   reached-closer n = closer-words w.on w.words w.enters n
 
-  pub onward-shut : {v : ℕ} → get_or t (a + o) 0 ≢ 0 → v ≡ evaluation_in t (get_or t (a + o) 0 - 1) → v ≤ s → true ≡ onwardb (domain_of m l ws) (tree_in ws m l t) e
-  onward-shut n i b = sym (w.leads ∙ reached-shut w.on w.words w.enters n (omega arith))
-
-  pub onward-waits : (get_or t (a + o) 0 ≡ 0) ⊎ ((get_or t (a + o) 0 ≢ 0) × (s < evaluation_in t (get_or t (a + o) 0 - 1)))
-      → leb (get_or costs o 0) s ≡ onwardb (domain_of m l ws) (tree_in ws m l t) e
-  onward-waits c = reached-waits w.on w.words w.enters w.small c ∙ sym w.leads
+  pub onward-reads : onwardb (domain_of m l ws) (tree_in ws m l t) e ≡ ((not (eqb (get_or t (a + o) 0) 0) && leb (evaluation_in t (get_or t (a + o) 0 - 1)) s) || leb (get_or costs o 0) s)
+  onward-reads = w.leads ∙ reached-reads w.on w.words w.enters w.small
 
 -- ---- whether each does
 

@@ -1,4 +1,5 @@
 -- Laws that belong to no one function.
+pub mod Ranges
 pub mod Zeros
 pub mod Nodes
 pub mod Marks

@@ -1,16 +1,17 @@
 -- A tree's counts, its root and its other nodes, word by word: the tests of them, and what is so if all pass.
 -- Assumes nothing.
-use mathlib.Core.Path.{◌≡◌, refl, sym, ap, ap₂, ◌∙◌}
+use mathlib.Core.Path.{◌≡◌, refl, sym, ap, ◌∙◌}
 use mathlib.Core.Logic.{◌≢◌}
-use mathlib.Core.Bool.{Bool, true, false, not, ◌||◌}
+use mathlib.Core.Bool.{Bool, true, not}
 use mathlib.Core.List.{List, [], ◌∷◌}
 use Prim.Native.Nat.{ℕ, suc, ◌+◌, ◌<◌, ◌≤◌}
 use native.Mathlib.Numerals.{add-one}
+use native.Mathlib.Decide.{ℕ_discrete, dec_lt}
 use native.Mathlib.Omega.{arith}
-use borrow.Author.Tests.{ltb-true, eqb-true, eqb-false, not-true, lt-ltb, le-ltb, le-leb, lt-leb, eq-eqb, ne_eqb}
-use lib.Dec.{eqb, leb, ltb}
+use borrow.Author.Tests.{ltb-true, eqb-true, eqb-false, not-true, le-ltb, ne_eqb}
+use lib.Dec.{eqb, ltb}
 use lib.ListN.{length, get_or}
-use Rattle.model.specs.Lists.{allb, upto}
+use Rattle.model.specs.Lists.{allb}
 use Rattle.model.specs.Graph.{Graph, Domain, Accepted, from, to, cost, absent, vertex_count, edge_count, root_cost, initial_cost}
 use Rattle.model.specs.Tree.{Tree, Node, node, closed_at}
 use Rattle.model.specs.Sound.{Hangs, hang_tests, hangsb, root_tests, hang_allb}
@@ -18,26 +19,13 @@ use Rattle.model.proofs.Bools.{AllTrue, all_true}
 use Rattle.model.proofs.Tests.{all-hang}
 use Rattle.model.proofs.Least.{hung-inside}
 use Rattle.model.proofs.Room.{initial-bound, hung-cost}
-use Rattle.layout.specs.Layout.{initial_at, closed_words_at, cost_in, direction_in, edge_cost_in, edge_in, from_in, initial_in, parent_in, queued_in, start_in, to_in, used_in, vertex_in}
+use Rattle.layout.specs.Layout.{initial_at, closed_words_at, cost_in, direction_in, edge_cost_in, edge_in, from_in, initial_in, parent_in, start_in, to_in, used_in, vertex_in}
 use Rattle.layout.specs.Read.{node_in, graph_in, direction_of, tree_in, domain_of}
 use Rattle.layout.proofs.Edges.{initial-word, vertex-count-in, edge-count-in, from-word, to_word, cost-word}
 use Rattle.layout.proofs.Trees.{tree-nodes, tree-node}
-use Rattle.sound_tree.specs.Check.{count_tests, Counted, Hung}
-use Rattle.model.proofs.InTurn.{one-fails, one_more, all-passed, all-fails, read-fails, read-last, read_below, read_same, read-differ}
-use Rattle.sound_tree.proofs.Edges.{edge-from, closed-word, closed-there, closed-small}
-
--- ---- counts
-
--- u and q are read as the counts
-pub no_node : (l : ℕ) (t : List ℕ) {u : ℕ} → u ≡ used_in t → u ≡ 0 → false ≡ allb (count_tests l t)
-no_node l t e z = sym (all-fails (count_tests l t) 0 (le-ltb 0 (used_in t) (omega arith)))
-
-pub many-nodes : (l : ℕ) (t : List ℕ) {u : ℕ} → u ≡ used_in t → 1 + l < u → false ≡ allb (count_tests l t)
-many-nodes l t e h = sym (all-fails (count_tests l t) 1 (lt-leb (used_in t) (1 + l) (omega arith)))
-
-pub some-nodes : (l : ℕ) (t : List ℕ) {u q : ℕ} → u ≡ used_in t → (u ≡ 0 → ⊥) → u ≤ 1 + l → q ≡ queued_in t → leb q (1 + l) ≡ allb (count_tests l t)
-some-nodes l t e z h f =
-    ap (λ (x : ℕ). leb x (1 + l)) f ∙ read-last {cs = count_tests l t} refl 2 refl (lt-ltb 0 (used_in t) (omega arith)) (le-leb (used_in t) (1 + l) (omega arith))
+use Rattle.sound_tree.specs.Check.{Counted, Hung}
+use Rattle.model.proofs.InTurn.{all-fails}
+use Rattle.sound_tree.proofs.Edges.{edge-from, closed-word}
 
 -- ---- the root
 
@@ -46,64 +34,44 @@ pub start-cost : (m l : ℕ) (ws : List ℕ) (v : ℕ) → v < m → initial_at 
 unfolding initial_cost
 start-cost m l ws v h fits = ap (root_cost (direction_of (direction_in ws))) (initial-word m l ws v absent h fits)
 
-module _ {m l : ℕ} {ws t : List ℕ} (h : Counted m l ws t) where
-  vertices : vertex_count (graph_in m l ws) ≡ m
-  vertices = vertex-count-in m l ws (omega (arith, h.can.held.fits))
+vertices : {m l : ℕ} {ws t : List ℕ} → Counted m l ws t → vertex_count (graph_in m l ws) ≡ m
+vertices {m} {l} {ws} h = vertex-count-in m l ws (omega (arith, h.can.held.fits))
 
-  pub root-outside : {v : ℕ} → v ≡ start_in t → m ≤ v → false ≡ allb (root_tests (domain_of m l ws) (tree_in ws m l t))
-  unfolding tree_in
-  root-outside e o = sym (all-fails (root_tests (domain_of m l ws) (tree_in ws m l t)) 0 (le-ltb (start_in t) (vertex_count (graph_in m l ws)) (omega (arith, vertices))))
+-- the tests as the words have them
+abbrev root_words : ℕ → List ℕ → List ℕ → List Bool
+root_words m ws t =
+    let c = root_cost (direction_of (direction_in ws)) (initial_in ws (start_in t)) in
+    ltb (start_in t) m ∷ not (eqb c absent) ∷ eqb (vertex_in ws t 0) (start_in t) ∷ eqb (cost_in t 0) c ∷ eqb (parent_in t 0) absent ∷ eqb (edge_in t 0) absent ∷ []
 
-  -- v and w are read as the start vertex, c as its cost
-  module _ {v w c : ℕ} (ev : v ≡ start_in t) (o : v < m) (ew : w ≡ start_in t) (ec : c ≡ root_cost (direction_of (direction_in ws)) (initial_in ws w)) where
-    -- the tests as the words have them
-    abbrev root_words : List Bool
-    root_words = ltb (start_in t) m ∷ not (eqb c absent) ∷ eqb (vertex_in ws t 0) (start_in t) ∷ eqb (cost_in t 0) c ∷ eqb (parent_in t 0) absent ∷ eqb (edge_in t 0) absent ∷ []
-
-    words : root_tests (domain_of m l ws) (tree_in ws m l t) ≡ root_words
-    unfolding tree_in
-    words = λ i. tests (vertices i) (costs i) (root i)
-      where
-        s : ℕ
-        s = start_in t
-
-        tests : ℕ → ℕ → Node → List Bool
-        tests n k x = ltb s n ∷ not (eqb k absent) ∷ eqb x.vertex s ∷ eqb x.cost k ∷ eqb x.parent absent ∷ eqb x.edge absent ∷ []
-
-        costs : initial_cost (domain_of m l ws) s ≡ c
-        costs =
-            start-cost m l ws s (omega arith) (omega (arith, h.can.held.fits))
-            ∙ sym (ec ∙ ap (λ (x : ℕ). root_cost (direction_of (direction_in ws)) (initial_in ws x)) ew)
-
-        root : node (tree_in ws m l t).nodes 0 ≡ node_in ws t 0
-        root = tree-node ws m l t 0 h.some_node
-
-    abbrev Answered : Bool → Type 0
-    Answered r = r ≡ allb (root_tests (domain_of m l ws) (tree_in ws m l t))
-
-    pub root-absent : c ≡ absent → Answered false
-    root-absent e = read-fails words 1 (ap not (eq-eqb c absent e))
-
-    -- x, y, z, u are read as the root's vertex, cost, parent and edge
-    pub root_vertex : {x : ℕ} → x ≡ vertex_in ws t 0 → (x ≡ start_in t → ⊥) → Answered false
-    root_vertex ex n = read-fails words 2 (read-differ ex refl n)
-
-    pub root-cost : {y : ℕ} → y ≡ cost_in t 0 → (y ≡ c → ⊥) → Answered false
-    root-cost ey n = read-fails words 3 (read-differ ey refl n)
-
-    pub root_parent : {z : ℕ} → z ≡ parent_in t 0 → (z ≡ absent → ⊥) → Answered false
-    root_parent ez n = read-fails words 4 (read-differ ez refl n)
-
-    pub root-last : {x y z u : ℕ} → (c ≡ absent → ⊥) → x ≡ vertex_in ws t 0 → x ≡ start_in t → y ≡ cost_in t 0 → y ≡ c → z ≡ parent_in t 0 → z ≡ absent
-        → u ≡ edge_in t 0 → Answered (eqb u absent)
-    root-last some ex sx ey sy ez sz eu =
-        ap (λ (k : ℕ). eqb k absent) eu
-        ∙ read-last words 5 refl (read_below ev o) (ap not (ne_eqb c absent some)) (read_same ex refl sx) (read_same ey refl sy) (read_same ez refl sz)
+pub root_reads : (m l : ℕ) (ws t : List ℕ) → Counted m l ws t → allb (root_tests (domain_of m l ws) (tree_in ws m l t)) ≡ allb (root_words m ws t)
+unfolding tree_in
+root_reads m l ws t h = elim (dec_lt (start_in t) m) [
+  | yes inside ↦ λ i. allb (tests (vertices h i) (start-cost m l ws (start_in t) inside (omega (arith, h.can.held.fits)) i) (tree-node ws m l t 0 h.some_node i))
+  | no outside ↦
+      all-fails (root_tests (domain_of m l ws) (tree_in ws m l t)) 0 (le-ltb (start_in t) (vertex_count (graph_in m l ws)) (omega (arith, vertices h)))
+      ∙ sym (all-fails (root_words m ws t) 0 (le-ltb (start_in t) m (omega arith)))
+]
+  where
+    -- by the count of vertices, the start's cost and the root
+    tests : ℕ → ℕ → Node → List Bool
+    tests n c x = ltb (start_in t) n ∷ not (eqb c absent) ∷ eqb x.vertex (start_in t) ∷ eqb x.cost c ∷ eqb x.parent absent ∷ eqb x.edge absent ∷ []
 
 -- ---- the other nodes
 
--- node i is there; p is read as its parent
-module _ {m l i : ℕ} {ws t : List ℕ} (h : Counted m l ws t × (i < used_in t)) {p₀ p : ℕ} (rp₀ : p₀ ≡ parent_in t i) (rp : p ≡ p₀) where
+-- the tests of node i as the words have them, its closed word by the vertex that its edge leaves
+abbrev hang_words : ℕ → ℕ → List ℕ → List ℕ → ℕ → List Bool
+hang_words m l ws t i =
+    let p = parent_in t i in
+    let e = edge_in t i in
+    ltb p i
+    ∷ ltb e l
+    ∷ eqb (from_in m ws e) (vertex_in ws t p)
+    ∷ eqb (to_in m ws e) (vertex_in ws t i)
+    ∷ eqb (cost_in t i) (cost_in t p + edge_cost_in m ws e)
+    ∷ eqb (get_or t (closed_words_at l + from_in m ws e) 0) (p + 1)
+    ∷ []
+
+module _ {m l i : ℕ} {ws t : List ℕ} (h : Counted m l ws t) (o : i < used_in t) where
   abbrev g : Graph
   g = graph_in m l ws
 
@@ -113,117 +81,72 @@ module _ {m l i : ℕ} {ws t : List ℕ} (h : Counted m l ws t × (i < used_in t
   abbrev cl : List ℕ
   cl = (tree_in ws m l t).closed
 
-  abbrev Hangs? : Bool → Type 0
-  Hangs? r = r ≡ hangsb (domain_of m l ws) ns cl i
+  abbrev tests : List Bool
+  tests = hang_tests (domain_of m l ws) ns cl i
+
+  abbrev p : ℕ
+  p = parent_in t i
+
+  abbrev e : ℕ
+  e = edge_in t i
 
   this : node ns i ≡ node_in ws t i
-  this = tree-node ws m l t i h.1
+  this = tree-node ws m l t i o
 
   number : (node ns i).parent ≡ p
-  number = ap (λ (x : Node). x.parent) this ∙ sym (rp ∙ rp₀)
+  number = ap (λ (x : Node). x.parent) this
 
-  pub hang-above : i ≤ p → Hangs? false
-  unfolding hangsb
-  hang-above o = sym (all-fails (hang_tests (domain_of m l ws) ns cl i) 0 (le-ltb (node ns i).parent i (omega (arith, number))))
+  edge : (node ns i).edge ≡ e
+  edge = ap (λ (x : Node). x.edge) this
 
-  -- e is read as its edge
-  module _ (op : p < i) {e₀ e : ℕ} (re₀ : e₀ ≡ edge_in t i) (re : e ≡ e₀) where
-    edge : (node ns i).edge ≡ e
-    edge = ap (λ (x : Node). x.edge) this ∙ sym (re ∙ re₀)
+  above : i ≤ p → allb tests ≡ allb (hang_words m l ws t i)
+  above a = all-fails tests 0 (le-ltb (node ns i).parent i (omega (arith, number))) ∙ sym (all-fails (hang_words m l ws t i) 0 (le-ltb p i a))
 
-    pub hang-outside : l ≤ e → Hangs? false
-    unfolding hangsb
-    hang-outside o = sym (all-fails (hang_tests (domain_of m l ws) ns cl i) 1 (le-ltb (node ns i).edge (edge_count g) (omega (arith, edge, edge-count-in m l ws))))
+  outside : l ≤ e → allb tests ≡ allb (hang_words m l ws t i)
+  outside a =
+      all-fails tests 1 (le-ltb (node ns i).edge (edge_count g) (omega (arith, edge, edge-count-in m l ws)))
+      ∙ sym (all-fails (hang_words m l ws t i) 1 (le-ltb e l a))
 
-    module _ (oe : e < l) where
-      -- the tests as the words have them
-      abbrev hang_words : List Bool
-      hang_words =
-          ltb p i
-          ∷ ltb e l
-          ∷ eqb (from_in m ws e) (vertex_in ws t p)
-          ∷ eqb (to_in m ws e) (vertex_in ws t i)
-          ∷ eqb (cost_in t i) (cost_in t p + edge_cost_in m ws e)
-          ∷ eqb (closed_at cl (vertex_in ws t p)) (suc p)
-          ∷ []
+  module _ (op : p < i) (oe : e < l) where
+    -- by the closed word, and the number that it has to be
+    abbrev words : ℕ → ℕ → List Bool
+    words c n = ltb p i ∷ ltb e l ∷ eqb (from_in m ws e) (vertex_in ws t p) ∷ eqb (to_in m ws e) (vertex_in ws t i) ∷ eqb (cost_in t i) (cost_in t p + edge_cost_in m ws e) ∷ eqb c n ∷ []
 
-      hang-words : hang_tests (domain_of m l ws) ns cl i ≡ hang_words
-      hang-words = λ k.
-          tests (number k) (edge k) (edge-count-in m l ws k)
-          ((ap (from g) edge ∙ from-word m l ws e oe) k) ((ap (to g) edge ∙ to_word m l ws e oe) k) ((ap (cost g) edge ∙ cost-word m l ws e oe) k) (this k) (parent k)
-        where
-          parent : node ns (node ns i).parent ≡ node_in ws t p
-          parent = ap (node ns) number ∙ tree-node ws m l t p (omega (arith, h.1))
+    inside : tests ≡ words (closed_at cl (vertex_in ws t p)) (suc p)
+    inside = λ k.
+        all (number k) (edge k) (edge-count-in m l ws k)
+        ((ap (from g) edge ∙ from-word m l ws e oe) k) ((ap (to g) edge ∙ to_word m l ws e oe) k) ((ap (cost g) edge ∙ cost-word m l ws e oe) k) (this k) (parent k)
+      where
+        parent : node ns (node ns i).parent ≡ node_in ws t p
+        parent = ap (node ns) number ∙ tree-node ws m l t p (omega arith)
 
-          -- by the parent's number, the edge's, the number of edges; the edge's words; the node, the parent
-          tests : ℕ → ℕ → ℕ → ℕ → ℕ → ℕ → Node → Node → List Bool
-          tests p e n a b c x y =
-              ltb p i ∷ ltb e n ∷ eqb a y.vertex ∷ eqb b x.vertex ∷ eqb x.cost (y.cost + c) ∷ eqb (closed_at cl y.vertex) (suc p) ∷ []
+        -- by the parent's number, the edge's, the number of edges; the edge's words; the node, the parent
+        all : ℕ → ℕ → ℕ → ℕ → ℕ → ℕ → Node → Node → List Bool
+        all k j n a b c x y =
+            ltb k i ∷ ltb j n ∷ eqb a y.vertex ∷ eqb b x.vertex ∷ eqb x.cost (y.cost + c) ∷ eqb (closed_at cl y.vertex) (suc k) ∷ []
 
-      -- f, b: the edge's ends; u, v: the vertices of parent and node
-      pub hang-leaves : {f u : ℕ} → f ≡ from_in m ws e → u ≡ vertex_in ws t p → (f ≡ u → ⊥) → Hangs? false
-      unfolding hangsb
-      hang-leaves rf ru n = read-fails hang-words 2 (read-differ rf ru n)
+    within : allb tests ≡ allb (hang_words m l ws t i)
+    within = ap allb inside ∙ elim (ℕ_discrete (from_in m ws e) (vertex_in ws t p)) [
+      | yes q ↦ λ k. allb (words (sym (closed-word ws m l t refl q (edge-from h.can.held oe refl).1) k) (sym (add-one p) k))
+      | no q ↦
+          let other = ne_eqb (from_in m ws e) (vertex_in ws t p) q in
+          all-fails (words (closed_at cl (vertex_in ws t p)) (suc p)) 2 other ∙ sym (all-fails (hang_words m l ws t i) 2 other)
+    ]
 
-      pub hang-enters : {b v : ℕ} → b ≡ to_in m ws e → v ≡ vertex_in ws t i → (b ≡ v → ⊥) → Hangs? false
-      unfolding hangsb
-      hang-enters rb rv n = read-fails hang-words 3 (read-differ rb rv n)
-
-      -- j, k, x: the costs of parent, edge and node
-      module _ {j₀ j k₀ k x₀ x : ℕ} (rj₀ : j₀ ≡ cost_in t p) (rj : j ≡ j₀) (rk₀ : k₀ ≡ edge_cost_in m ws e) (rk : k ≡ k₀) (rx₀ : x₀ ≡ cost_in t i) (rx : x ≡ x₀) where
-        sum : j + k ≡ cost_in t p + edge_cost_in m ws e
-        sum = ap₂ ◌+◌ (rj ∙ rj₀) (rk ∙ rk₀)
-
-        pub hang-cost : (x ≡ j + k → ⊥) → Hangs? false
-        unfolding hangsb
-        hang-cost n = read-fails hang-words 4 (read-differ (rx ∙ rx₀) sum n)
-
-        -- a: where the closed words begin; z: the closed word of the edge's first end
-        pub hang-last : {f u b v a y z : ℕ} → f ≡ from_in m ws e → u ≡ vertex_in ws t p → f ≡ u → b ≡ to_in m ws e → v ≡ vertex_in ws t i → b ≡ v → x ≡ j + k
-            → a ≡ closed_words_at l → y ≡ f → z ≡ get_or t (a + y) 0 → Hangs? (eqb z (p + 1))
-        unfolding hangsb
-        hang-last rf ru fu rb rv bv xs ra ry rz =
-            ap₂ eqb (rz ∙ closed-word ws m l t ra (ry ∙ fu ∙ ru) (edge-from h.0.can.held oe (ry ∙ rf)).1) (add-one p)
-            ∙ read-last hang-words 5 refl (lt-ltb p i op) (lt-ltb e l oe) (read_same rf ru fu) (read_same rb rv bv) (read_same (rx ∙ rx₀) sum xs)
-
--- the place of the closed word that tells whether the parent closed its vertex
-module _ {m l i : ℕ} {ws t : List ℕ} (h : Counted m l ws t × (i < used_in t)) {e : ℕ} (oe : e < l) {a f y : ℕ} (ra : a ≡ closed_words_at l) (rf : f ≡ from_in m ws e) (ry : y ≡ f) where
-  pub hang-place : (a + y < length t) × (a + y ≤ 20000)
-  hang-place = (closed-there h.0.can oe ra rf ry, closed-small h.0.can oe ra rf ry)
-
--- the nodes below i pass, node 0 unasked
-pub record HangTo (m l : ℕ) (ws t : List ℕ) (i : ℕ) : Type 0 where
-  some : 0 < i
-  passed : upto (λ k. eqb k 0 || hangsb (domain_of m l ws) (tree_in ws m l t).nodes (tree_in ws m l t).closed k) i ≡ true
-
-module _ (m l : ℕ) (ws t : List ℕ) where
-  abbrev hangs : ℕ → Bool
-  hangs i = hangsb (domain_of m l ws) (tree_in ws m l t).nodes (tree_in ws m l t).closed i
-
-  pub hang-none : HangTo m l ws t 1
-  unfolding upto
-  hang-none = record { some = omega arith; passed = refl }
-
-  -- n is read as the count, b as the test of node i
-  module _ {n i : ℕ} (w : HangTo m l ws t i) (e : n ≡ used_in t) where
-    asked : {b : Bool} → b ≡ hangs i → b ≡ (eqb i 0 || hangs i)
-    asked r = r ∙ ap (λ (a : Bool). a || hangs i) (sym (ne_eqb i 0 (omega (arith, w.some))))
-
-    pub hang-more : {b : Bool} → i < n → b ≡ hangs i → not b ≡ false → HangTo m l ws t (i + 1)
-    hang-more {b} h r q = record { some = omega arith; passed = one_more _ i b w.passed (asked r) q }
-
-    pub hang-fails : {b : Bool} → i < n → b ≡ hangs i → not b ≡ true → false ≡ hang_allb (domain_of m l ws) (tree_in ws m l t)
-    hang-fails {b} h r q = one-fails _ (length (tree_in ws m l t).nodes) i b (omega (arith, tree-nodes ws m l t)) (asked r) q
-
-    pub hang-all : n ≤ i → true ≡ hang_allb (domain_of m l ws) (tree_in ws m l t)
-    hang-all h = all-passed _ (length (tree_in ws m l t).nodes) i w.passed (omega (arith, tree-nodes ws m l t))
+pub hang_reads : (m l : ℕ) (ws t : List ℕ) (i : ℕ) → Counted m l ws t → i < used_in t
+    → hangsb (domain_of m l ws) (tree_in ws m l t).nodes (tree_in ws m l t).closed i ≡ allb (hang_words m l ws t i)
+unfolding hangsb
+hang_reads m l ws t i h o = elim (dec_lt (parent_in t i) i) [
+  | no a ↦ above h o (omega arith)
+  | yes op ↦ elim (dec_lt (edge_in t i) l) [ no a ↦ outside h o (omega arith) | yes oe ↦ within h o op oe ]
+]
 
 -- ---- what is so if all pass
 
-pub hung-at : (m l : ℕ) (ws t : List ℕ) → Counted m l ws t → allb (root_tests (domain_of m l ws) (tree_in ws m l t)) ≡ true
+pub hung_at : (m l : ℕ) (ws t : List ℕ) → Counted m l ws t → allb (root_tests (domain_of m l ws) (tree_in ws m l t)) ≡ true
     → hang_allb (domain_of m l ws) (tree_in ws m l t) ≡ true → Hung m l ws t
 unfolding tree_in
-hung-at m l ws t h root hang =
+hung_at m l ws t h root hang =
     record {
       counted = h;
       start = start;

@@ -11,7 +11,7 @@ use native.Mathlib.Numerals.{add-one}
 use lib.Dec.{eqb, ltb}
 use lib.ListN.{length, get_or, set, drop, replicate, length-set, length-drop, length-replicate, get_or-replicate}
 use lib.Seq.{take-suc, get_or-drop, get_or-set_same, get_or-set_other}
-use borrow.Author.Tests.{not-true, not-false, lt-ltb, le-ltb, eq-eqb, ne_eqb}
+use borrow.Author.Tests.{not-true, lt-ltb, le-ltb, eq-eqb, ne_eqb}
 use Rattle.model.specs.Lists.{mem, allb, all_below, upto}
 use Rattle.model.specs.Tree.{precedes}
 use Rattle.model.specs.Sound.{distinctb}
@@ -77,7 +77,7 @@ least-none : (ws t : List ℕ) → LeastCosts (replicate 1024 no_cost) ws t []
 unfolding least_cost
 least-none ws t = record { len = length-replicate {A = ℕ} 1024 no_cost; least = λ v h. get_or-replicate {A = ℕ} 1024 v no_cost 0 h }
 
--- the table with node k of vertex v and cost c, which is below the vertex's least cost or is not
+-- the table with node k of vertex v and cost c
 module _ {costs ws t xs : List ℕ} (s : LeastCosts costs ws t xs) (k : ℕ) {v c : ℕ} (vertex : v ≡ vertex_in ws t k) (cost : c ≡ evaluation_in t k) (h : v < 1024) where
   same : least_cost ws t (xs ++ (k ∷ [])) v ≡ min c (get_or costs v 0)
   same =
@@ -89,17 +89,14 @@ module _ {costs ws t xs : List ℕ} (s : LeastCosts costs ws t xs) (k : ℕ) {v 
       s.least w g
       ∙ sym (least-snoc ws t k w xs ∙ ap (λ (b : Bool). lesser_if b (evaluation_in t k) (least_cost ws t xs w)) (ne_eqb _ w (omega (arith, vertex))))
 
-  least-less : c < get_or costs v 0 → LeastCosts (set costs v c) ws t (xs ++ (k ∷ []))
-  least-less less = record {
-    len = length-set costs v c ∙ s.len;
+  least-more : (d : ℕ) → d ≡ min (get_or costs v 0) c → LeastCosts (set costs v d) ws t (xs ++ (k ∷ []))
+  least-more d lesser = record {
+    len = length-set costs v d ∙ s.len;
     least = λ w g. elim (ℕ_discrete w v) [
-      | yes e ↦ rw e (omega (arith, same, get_or-set_same costs v c 0 (omega (arith, s.len))))
-      | no ne ↦ get_or-set_other costs v w c 0 ne ∙ other w g ne
+      | yes e ↦ rw e (omega (arith, same, get_or-set_same costs v d 0 (omega (arith, s.len))))
+      | no ne ↦ get_or-set_other costs v w d 0 ne ∙ other w g ne
     ];
   }
-
-  least_kept : get_or costs v 0 ≤ c → LeastCosts costs ws t (xs ++ (k ∷ []))
-  least_kept more = record { len = s.len; least = λ w g. elim (ℕ_discrete w v) [ yes e ↦ rw e (omega (arith, same)) | no ne ↦ other w g ne ] }
 
 -- ---- the tests of word i, and of those before it
 
@@ -188,32 +185,23 @@ module _ {l i q n : ℕ} {ws t : List ℕ} {marks : List Bool} {costs : List ℕ
         after-parent e z = order e ∙ ap not z
 
       -- vertex and cost of the node
-      module _ {v w : ℕ} (wide : v ≡ w) (vertex : w ≡ vertex_in ws t n) where
+      module _ {v : ℕ} (vertex : v ≡ vertex_in ws t n) where
         small : v < 1024
         small = omega (arith, turn.words.vertex n (omega arith))
 
-        pub has-cost : v < length costs
-        has-cost = omega (arith, small, turn.tables.least.len)
-
-        module _ {c : ℕ} (cost : c ≡ evaluation_in t (get_or t (q + i) 0)) (new : get_or marks n false ≡ false) (ordered : orderb ws l t i ≡ true) where
-          cost-is : c ≡ evaluation_in t n
-          cost-is = cost ∙ ap (evaluation_in t) (sym word)
-
-          passes : {cs : List ℕ} → LeastCosts cs ws t (part (queue_at l) i t ++ (n ∷ [])) → QueueIs l ws t (i + 1) true (set marks n true) cs
-          passes s =
-              let more : part (queue_at l) (i + 1) t ≡ part (queue_at l) i t ++ (n ∷ []) =
-              part-more (queue_at l) i t fits ∙ ap (λ (x : ℕ). part (queue_at l) i t ++ (x ∷ [])) word-is in
-              record {
-                answer = sym (tests
-                    ∙ true-given (word_tests ws l t i) (lt-ltb (get_or t (queue_at l + i) 0) (used_in t) (omega (arith, word-is, used))) (ap not (marked ∙ new)) ordered);
-                tables = λ z. record { marked = rw more (marked_more turn.tables.marked (omega (arith, turn.words.areas.used, turn.words.areas.edges))); least = rw more s };
-              }
-
-          pub lower : c < get_or costs v 0 → QueueIs l ws t (i + 1) true (set marks n true) (set costs v c)
-          lower less = passes (least-less turn.tables.least n (wide ∙ vertex) cost-is small less)
-
-          pub not_lower : get_or costs v 0 ≤ c → QueueIs l ws t (i + 1) true (set marks n true) costs
-          not_lower more = passes (least_kept turn.tables.least n (wide ∙ vertex) cost-is small more)
+        pub marked-next : {c d : ℕ} → c ≡ evaluation_in t (get_or t (q + i) 0) → get_or marks n false ≡ false → orderb ws l t i ≡ true → d ≡ min (get_or costs v 0) c
+            → QueueIs l ws t (i + 1) true (set marks n true) (set costs v d)
+        marked-next {d = d} cost new ordered lesser =
+            let more : part (queue_at l) (i + 1) t ≡ part (queue_at l) i t ++ (n ∷ []) =
+            part-more (queue_at l) i t fits ∙ ap (λ (x : ℕ). part (queue_at l) i t ++ (x ∷ [])) word-is in
+            record {
+              answer = sym (tests
+                  ∙ true-given (word_tests ws l t i) (lt-ltb (get_or t (queue_at l + i) 0) (used_in t) (omega (arith, word-is, used))) (ap not (marked ∙ new)) ordered);
+              tables = λ z. record {
+                marked = rw more (marked_more turn.tables.marked (omega (arith, turn.words.areas.used, turn.words.areas.edges)));
+                least = rw more (least-more turn.tables.least n vertex (cost ∙ ap (evaluation_in t) (sym word)) small d lesser);
+              };
+            }
 
 -- the first word has no parent
 pub first_word : (ws : List ℕ) (l i : ℕ) (t : List ℕ) → i ≤ 0 → orderb ws l t i ≡ true
@@ -225,19 +213,9 @@ pub queue-none : (l : ℕ) (ws t : List ℕ) {marks : List Bool} {costs : List �
 unfolding upto distinctb
 queue-none l ws t m c = rw (m, c) (record { answer = refl; tables = λ z. record { marked = marked-none 2049; least = least-none ws t } })
 
-module _ {l i n : ℕ} {ws t : List ℕ} (words : QueueWords l ws t) (queued : n ≡ queued_in t) (h : i < n) where
-  pub queue-turn : {marks : List Bool} {costs : List ℕ} → QueueIs l ws t i true marks costs → QueueTurn l ws t i marks costs
-  queue-turn q = record { words = words; place = omega arith; passed = sym q.answer; tables = q.tables refl }
-
-  pub queue-fails : {r : Bool} {ms ks : List Bool} {cs ds : List ℕ} → QueueIs l ws t (i + 1) r ms cs → not r ≡ true → QueueIs l ws t (queued_in t) false ks ds
-  queue-fails {r} q e = record {
-    answer = sym (fail-on ws l (i + 1) t (queued_in t) (omega arith) (omega (arith, words.areas.queued, words.areas.fits)) (sym q.answer ∙ not-true r e));
-    tables = λ z. absurd (true≢false (sym z));
-  }
-
-pub queue-passes : {l n : ℕ} {ws t : List ℕ} {r : Bool} {marks : List Bool} {costs : List ℕ} → QueueIs l ws t n r marks costs → not r ≡ false → QueueIs l ws t n true marks costs
-queue-passes {r = r} q e = rw (not-false r e) at q
-
-pub queue-all : {l i n : ℕ} {ws t : List ℕ} {marks : List Bool} {costs : List ℕ} → i ≤ n → n ≤ i → n ≡ queued_in t → QueueIs l ws t i true marks costs
-    → QueueIs l ws t (queued_in t) true marks costs
-queue-all {i = i} {t = t} h k queued q = let e : i ≡ queued_in t = omega arith in rw e at q
+pub queue-fails : {l i n : ℕ} {ws t : List ℕ} {r : Bool} {ms ks : List Bool} {cs ds : List ℕ} → QueueWords l ws t → n ≡ queued_in t → i < n
+    → QueueIs l ws t (i + 1) r ms cs → not r ≡ true → QueueIs l ws t (queued_in t) false ks ds
+queue-fails {l} {i} {ws = ws} {t} {r} words queued h q e = record {
+  answer = sym (fail-on ws l (i + 1) t (queued_in t) (omega arith) (omega (arith, words.areas.queued, words.areas.fits)) (sym q.answer ∙ not-true r e));
+  tables = λ z. absurd (true≢false (sym z));
+}

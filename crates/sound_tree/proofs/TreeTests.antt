@@ -1,14 +1,14 @@
 -- The tests of a tree's words in the order in which the check makes them. Two tests of the definition always pass: the waiting list
 -- that is read off words has only nodes and ascends.
 -- Assumes nothing.
-use mathlib.Core.Path.{◌≡◌, refl, sym, ap, ◌∙◌}
-use mathlib.Core.Bool.{Bool, true, false, not, ◌&&◌}
+use mathlib.Core.Path.{◌≡◌, sym, ap, ◌∙◌}
+use mathlib.Core.Bool.{Bool, true, ◌&&◌}
 use mathlib.Core.List.{List, [], ◌∷◌}
 use Prim.Native.Nat.{ℕ}
 use native.Mathlib.Omega.{arith}
 use lib.Dec.{ltb}
-use lib.ListN.{length, get_or}
-use borrow.Author.Tests.{ltb-true, leb-true, not-true, not-false, lt-ltb, eq-eqb}
+use lib.ListN.{length}
+use borrow.Author.Tests.{lt-ltb, eq-eqb}
 use Rattle.model.specs.Lists.{numbers, mem, allb, upto, all_in, ascendsb}
 use Rattle.model.specs.Graph.{Domain}
 use Rattle.model.specs.Tree.{Tree}
@@ -19,10 +19,8 @@ use Rattle.layout.specs.Read.{tree_in, domain_of}
 use Rattle.layout.specs.Sound.{queue_in, form_tests, formedb, tree_wordsb, spare_tests}
 use Rattle.layout.proofs.Edges.{vertex-count-in}
 use Rattle.layout.proofs.Trees.{tree-nodes, tree-closed-length}
-use Rattle.sound_tree.specs.Check.{CanCheck, count_tests, Counted, Hung, tables_tests, Areas}
-use Rattle.model.proofs.InTurn.{same_tests, all-fails, read-last}
-use Rattle.sound_tree.proofs.Nodes.{hung-at}
-use Rattle.sound_tree.proofs.Tables.{areas}
+use Rattle.sound_tree.specs.Check.{CanCheck, count_tests, tables_tests}
+use Rattle.model.proofs.InTurn.{same_tests}
 use Rattle.layout.specs.Layout.{used_in}
 
 -- ---- the waiting list
@@ -99,33 +97,6 @@ module _ (m l : ℕ) (ws t : List ℕ) (h : CanCheck m l ws t) where
       tables.1.1.1.0
       tables.1.1.1.1.0)
 
-  tree-tests : tree_wordsb d ws m l t ≡ allb (tree_tests d ws m l t)
-  unfolding tree_wordsb
-  tree-tests = same_tests _ _ passes passed
-
--- ---- what each answer says, in turn
-
--- test k fails
-pub tree-fails : (k : ℕ) {m l : ℕ} {ws t : List ℕ} → CanCheck m l ws t → {a : Bool} → a ≡ get_or (tree_tests (domain_of m l ws) ws m l t) k true → not a ≡ true
-    → false ≡ tree_wordsb (domain_of m l ws) ws m l t
-tree-fails k {m} {l} {ws} {t} h {a} e n = sym (tree-tests m l ws t h ∙ all-fails (tree_tests (domain_of m l ws) ws m l t) k (sym e ∙ not-true a n))
-
-module _ {m l : ℕ} {ws t : List ℕ} (h : CanCheck m l ws t) where
-  module _ {a : Bool} (ea : a ≡ allb (count_tests l t)) (pa : not a ≡ false) where
-    pub counted : Counted m l ws t
-    counted =
-        let c = all_true (count_tests l t) (sym ea ∙ not-false a pa) in
-        record { can = h; some_node = ltb-true 0 _ c.0; used = leb-true _ _ c.1.0; queued = leb-true _ _ c.1.1.0 }
-
-    pub has-areas : Areas l t
-    has-areas = areas counted
-
-    module _ {b c : Bool} (eb : b ≡ allb (root_tests (domain_of m l ws) (tree_in ws m l t))) (pb : not b ≡ false) (ec : c ≡ hang_allb (domain_of m l ws) (tree_in ws m l t)) (pc : not c ≡ false) where
-      pub hung : Hung m l ws t
-      hung = hung-at m l ws t counted (sym eb ∙ not-false b pb) (sym ec ∙ not-false c pc)
-
-      pub tree-last : {x y : Bool} → x ≡ allb (tables_tests (domain_of m l ws) ws m l t) → not x ≡ false → y ≡ allb (spare_tests l t) → y ≡ tree_wordsb (domain_of m l ws) ws m l t
-      tree-last {x} ex px ey =
-          ey
-          ∙ read-last {cs = tree_tests (domain_of m l ws) ws m l t} refl 4 refl (sym ea ∙ not-false a pa) (sym eb ∙ not-false b pb) (sym ec ∙ not-false c pc) (sym ex ∙ not-false x px)
-          ∙ sym (tree-tests m l ws t h)
+pub tree_reads : (m l : ℕ) (ws t : List ℕ) → CanCheck m l ws t → tree_wordsb (domain_of m l ws) ws m l t ≡ allb (tree_tests (domain_of m l ws) ws m l t)
+unfolding tree_wordsb
+tree_reads m l ws t h = same_tests _ _ (passes m l ws t h) (passed m l ws t h)

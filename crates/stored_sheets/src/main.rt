@@ -2,68 +2,83 @@
 
 #![tactic(auto)]
 
-ghost use Rattle.std.specs.Prelude.{◌+◌, ◌≤◌, length};
+ghost use Rattle.std.specs.Prelude.{◌+◌, ◌≤◌, length, IsTrue, nat_le};
+ghost use Rattle.std.specs.List.{list_all};
 
 use put_text::put_bytes;
+use std::io;
 use std::rt::Files;
 
 // The longest name of a folder, and one of a file in it.
 const NAME: usize = 48;
 
-fn main(rt: HostRuntime) {
-    print_case(&rt, b"example");
-    print_case(&rt, b"example-fresh-pair");
-    print_case(&rt, b"empty-chart");
-    print_case(&rt, b"empty-lists");
-    print_case(&rt, b"chain-of-10");
-    print_case(&rt, b"chain-of-11");
-    print_case(&rt, b"zero-pair");
-    print_case(&rt, b"zero-cycles");
-    print_case(&rt, b"doubles");
-    print_case(&rt, b"ties");
-    print_case(&rt, b"equal-finds");
-    print_case(&rt, b"two-ends");
-    print_case(&rt, b"loops");
-    print_case(&rt, b"no-starts");
-    print_case(&rt, b"dear");
-    print_case(&rt, b"mixed");
-    print_case(&rt, b"shelf-full");
-    print_case(&rt, b"refused-orders");
-    print_case(&rt, b"last-order-open");
-    print_case(&rt, b"no-orders");
-    print_case(&rt, b"widest");
-    print_case(&rt, b"no-last-line-feed");
-    print_case(&rt, b"number-repeated");
-    print_case(&rt, b"motif-after-link");
-    print_case(&rt, b"link-to-next-motif");
-    print_case(&rt, b"picks-1000000");
-    print_case(&rt, b"short-cloth");
-    print_case(&rt, b"words-15998");
-    print_case(&rt, b"words-16004");
-    print_case(&rt, b"chart-65536");
-    print_case(&rt, b"chart-65537");
-    print_case(&rt, b"orders-65536");
-    print_case(&rt, b"orders-65537");
-    print_case(&rt, b"chart-folder");
+const FOLDERS: [&str; 34] = [
+    "example",
+    "example-fresh-pair",
+    "empty-chart",
+    "empty-lists",
+    "chain-of-10",
+    "chain-of-11",
+    "zero-pair",
+    "zero-cycles",
+    "doubles",
+    "ties",
+    "equal-finds",
+    "two-ends",
+    "loops",
+    "no-starts",
+    "dear",
+    "mixed",
+    "shelf-full",
+    "refused-orders",
+    "last-order-open",
+    "no-orders",
+    "widest",
+    "no-last-line-feed",
+    "number-repeated",
+    "motif-after-link",
+    "link-to-next-motif",
+    "picks-1000000",
+    "short-cloth",
+    "words-15998",
+    "words-16004",
+    "chart-65536",
+    "chart-65537",
+    "orders-65536",
+    "orders-65537",
+    "chart-folder",
+];
+
+fn main(rt: HostRuntime) -> io::Result<()> {
+    print_cases(&rt, &FOLDERS)
 }
 
-fn print_case(rt: &(impl Files + Eprint), name: &[u8])
-    requires { length name.now ≤ 30 }
+fn print_cases(rt: &(impl Files + Print + Eprint), folders: &[&str]) -> io::Result<()>
+    requires { IsTrue (list_all (λ s. nat_le (length s.now) 30) folders.now) }
 {
-    io::write_all(1, b"# ");
-    io::write_all(1, name);
-    io::write_all(1, b"\n");
-    let mut chart = [0u8; NAME];
-    let mut orders = [0u8; NAME];
-    let n = put_name(&mut chart, name, b"/chart.txt");
-    let m = put_name(&mut orders, name, b"/orders.txt");
-    order_sheet::files::run_files(rt, &chart[0..n], &orders[0..m]);
+    for folder in folders {
+        print_case(rt, folder)?;
+    }
+    Ok(())
 }
 
-fn put_name(out: &mut [u8], folder: &[u8], file: &[u8]) -> usize
-    requires { length folder.now + length file.now ≤ length out.old }
-    ensures { result ≤ length out.new }
+fn print_case(rt: &(impl Files + Print + Eprint), folder: &str) -> io::Result<()>
+    requires { length folder.now ≤ 30 }
 {
-    let n = put_bytes(out, 0, folder);
-    put_bytes(out, n, file)
+    println!(rt; "# {folder}")?;
+    let mut chart = [0; NAME];
+    let mut orders = [0; NAME];
+    let chart = name_in(folder, "/chart.txt", &mut chart);
+    let orders = name_in(folder, "/orders.txt", &mut orders);
+    order_sheet::files::run_files(rt, chart, orders);
+    Ok(())
+}
+
+// The name of a file in a folder, which stands in the bytes lent.
+fn name_in<'a>(folder: &str, file: &str, bytes: &'a mut [u8]) -> &'a [u8]
+    requires { length folder.now + length file.now ≤ length bytes.old }
+{
+    let n = put_bytes(bytes, 0, folder.as_bytes());
+    let m = put_bytes(bytes, n, file.as_bytes());
+    &bytes[..m]
 }

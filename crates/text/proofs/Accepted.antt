@@ -8,13 +8,13 @@ use Prim.Native.Nat.{ℕ, zero, suc, ◌+◌, ◌<◌, ◌≤◌}
 use native.Mathlib.Omega.{arith}
 use borrow.Author.Tests.{ltb-false}
 use lib.ListN.{length, get_or}
+use Rattle.std.specs.Prelude.{Some, None}
+use Rattle.std.specs.declared.option.Option.{Option}
 use Rattle.model.specs.Answers.{Reply, answered}
 use Rattle.model.specs.Graph as graph
 use Rattle.model.specs.Graph.{Accepted, absent, no_edge, vertex_count, edge_count}
-use Rattle.text.specs.declared.lines.InitialCost.{InitialCost}
-use Rattle.text.specs.declared.lines.InitialCost.TheVariants.{Absent, Cost}
 use Rattle.text.specs.declared.lines.Line.{Line}
-use Rattle.text.specs.declared.lines.Line.TheVariants.{Vertex, Edge, Illegal}
+use Rattle.text.specs.declared.lines.Line.TheVariants.{Vertex, Edge}
 use Rattle.text.specs.declared.counts.Counts.{Counts}
 use Rattle.text.specs.Lines.{lines_of}
 use Rattle.text.specs.Read.{dear, initial_word, counted, judge_from, no_counts, judge_text, initials_of, edges_of, graph_of, graph_by, read_graph}
@@ -22,40 +22,40 @@ use Rattle.text.proofs.Passed.{fine-first, passes-first, passes-rest, answered-e
 
 -- ---- the lines below those that k counts
 
-pub counts-from : (n : ℕ) (k : Counts) (xs : List Line) {z : Counts} → judge_from n k xs ≡ answered z
+pub counts-from : (n : ℕ) (k : Counts) (xs : List (Option Line)) {z : Counts} → judge_from n k xs ≡ answered z
     → (k.vertices + length (initials_of xs) ≡ z.vertices) × (k.edges + length (edges_of xs) ≡ z.edges)
 unfolding initials_of edges_of counted
 counts-from n k [] e = rw (answered-empty n k e) (omega arith)
-counts-from n k (Illegal ∷ xs) e = counts-from (n + 1) k xs (passes-rest n k Illegal xs e)
-counts-from n k (Vertex v i ∷ xs) e = omega (arith, counts-from (n + 1) (counted k (Vertex v i)) xs (passes-rest n k (Vertex v i) xs e))
-counts-from n k (Edge a b c ∷ xs) e = omega (arith, counts-from (n + 1) (counted k (Edge a b c)) xs (passes-rest n k (Edge a b c) xs e))
+counts-from n k (None ∷ xs) e = counts-from (n + 1) k xs (passes-rest n k None xs e)
+counts-from n k (Some (Vertex v i) ∷ xs) e = omega (arith, counts-from (n + 1) (counted k (Some (Vertex v i))) xs (passes-rest n k (Some (Vertex v i)) xs e))
+counts-from n k (Some (Edge a b c) ∷ xs) e = omega (arith, counts-from (n + 1) (counted k (Some (Edge a b c))) xs (passes-rest n k (Some (Edge a b c)) xs e))
 
 abbrev pub Start : ℕ → Type 0
 Start c = (c ≡ absent) ⊎ (c ≤ 999999)
 
-start : (i : InitialCost) → dear i ≡ false → Start (initial_word i)
-start Absent e = inl refl
-start (Cost c) e = inr (ltb-false 999999 c e)
+start : (i : Option ℕ) → dear i ≡ false → Start (initial_word i)
+start None e = inl refl
+start (Some c) e = inr (ltb-false 999999 c e)
 
-starts_from : (n : ℕ) (k : Counts) (xs : List Line) {z : Counts} → judge_from n k xs ≡ answered z → (v : ℕ) → Start (get_or (initials_of xs) v absent)
+starts_from : (n : ℕ) (k : Counts) (xs : List (Option Line)) {z : Counts} → judge_from n k xs ≡ answered z → (v : ℕ) → Start (get_or (initials_of xs) v absent)
 unfolding initials_of counted
 starts_from n k [] e v = inl refl
-starts_from n k (Illegal ∷ xs) e v = starts_from (n + 1) k xs (passes-rest n k Illegal xs e) v
-starts_from n k (Vertex u i ∷ xs) e zero = start i (fine-first n k (Vertex u i) xs e).3
-starts_from n k (Vertex u i ∷ xs) e (suc v) = starts_from (n + 1) (counted k (Vertex u i)) xs (passes-rest n k (Vertex u i) xs e) v
-starts_from n k (Edge a b c ∷ xs) e v = starts_from (n + 1) (counted k (Edge a b c)) xs (passes-rest n k (Edge a b c) xs e) v
+starts_from n k (None ∷ xs) e v = starts_from (n + 1) k xs (passes-rest n k None xs e) v
+starts_from n k (Some (Vertex u i) ∷ xs) e zero = start i (fine-first n k (Some (Vertex u i)) xs e).3
+starts_from n k (Some (Vertex u i) ∷ xs) e (suc v) = starts_from (n + 1) (counted k (Some (Vertex u i))) xs (passes-rest n k (Some (Vertex u i)) xs e) v
+starts_from n k (Some (Edge a b c) ∷ xs) e v = starts_from (n + 1) (counted k (Some (Edge a b c))) xs (passes-rest n k (Some (Edge a b c)) xs e) v
 
 abbrev pub Sound : Counts → graph.Edge → Type 0
 Sound z e = (e.from < z.vertices) × (e.to < z.vertices) × (e.cost ≤ 999999)
 
-edges-from : (n : ℕ) (k : Counts) (xs : List Line) {z : Counts} → judge_from n k xs ≡ answered z
+edges-from : (n : ℕ) (k : Counts) (xs : List (Option Line)) {z : Counts} → judge_from n k xs ≡ answered z
     → (l : ℕ) → l < length (edges_of xs) → Sound z (get_or (edges_of xs) l no_edge)
 unfolding edges_of counted
 edges-from n k [] e l h = absurd (omega arith)
-edges-from n k (Illegal ∷ xs) e l h = edges-from (n + 1) k xs (passes-rest n k Illegal xs e) l h
-edges-from n k (Vertex v i ∷ xs) e l h = edges-from (n + 1) (counted k (Vertex v i)) xs (passes-rest n k (Vertex v i) xs e) l h
-edges-from n k (Edge a b c ∷ xs) e zero h = let p = (passes-first n k (Edge a b c) xs e).edge refl in (p.1, p.2, p.3)
-edges-from n k (Edge a b c ∷ xs) e (suc l) h = edges-from (n + 1) (counted k (Edge a b c)) xs (passes-rest n k (Edge a b c) xs e) l (omega arith)
+edges-from n k (None ∷ xs) e l h = edges-from (n + 1) k xs (passes-rest n k None xs e) l h
+edges-from n k (Some (Vertex v i) ∷ xs) e l h = edges-from (n + 1) (counted k (Some (Vertex v i))) xs (passes-rest n k (Some (Vertex v i)) xs e) l h
+edges-from n k (Some (Edge a b c) ∷ xs) e zero h = let p = (passes-first n k (Some (Edge a b c)) xs e).edge refl in (p.1, p.2, p.3)
+edges-from n k (Some (Edge a b c) ∷ xs) e (suc l) h = edges-from (n + 1) (counted k (Some (Edge a b c))) xs (passes-rest n k (Some (Edge a b c)) xs e) l (omega arith)
 
 -- ---- a whole text
 

@@ -6,6 +6,7 @@ pub mod Faults
 pub mod FieldsRead
 pub mod Forms
 pub mod GraphLines
+pub mod Inclusive
 pub mod Judged
 pub mod LineCuts
 pub mod LineTexts
@@ -15,6 +16,6 @@ pub mod Parted
 pub mod Parts
 pub mod Passed
 pub mod Passing
-pub mod PieceCuts
 pub mod Pieces
 pub mod Printed
+pub mod Splits

@@ -6,20 +6,8 @@ use mathlib.Core.List.{List, [], ◌∷◌}
 use Prim.Native.Nat.{ℕ}
 use native.Mathlib.Omega.{arith}
 use borrow.Author.Tests.{eqb-true, ne_eqb}
-use lib.Dec.{eqb}
-use lib.ListN.{length, get_or}
 use Rattle.text.specs.Bytes.{is_only}
 use Rattle.text.proofs.Pieces.{Above}
-
-pub only_one : (b : ℕ) (l : List ℕ) → length l ≡ 1 → is_only b l ≡ eqb (get_or l 0 0) b
-only_one b [] e = absurd (omega arith)
-only_one b (x ∷ []) e = refl
-only_one b (x ∷ y ∷ l) e = absurd (omega arith)
-
-pub only-other : (b : ℕ) (l : List ℕ) → (length l ≡ 1 → ⊥) → is_only b l ≡ false
-only-other b [] e = refl
-only-other b (x ∷ []) e = absurd (e refl)
-only-other b (x ∷ y ∷ l) e = refl
 
 pub only-is : (b : ℕ) (l : List ℕ) → is_only b l ≡ true → l ≡ b ∷ []
 only-is b [] e = absurd (true≢false (sym e))

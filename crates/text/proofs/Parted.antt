@@ -1,15 +1,19 @@
 -- Where a text is parted: at the first byte b there is a cut, and a text without b is one piece.
 -- Assumes nothing.
-use mathlib.Core.Path.{◌≡◌, refl, ap}
-use mathlib.Core.Bool.{Bool, true, false}
+use mathlib.Core.Path.{◌≡◌, refl}
+use mathlib.Core.Bool.{Bool, true, false, cond}
 use mathlib.Core.List.{List, [], ◌∷◌}
-use Prim.Native.Nat.{ℕ, zero, suc, ◌+◌, ◌<◌, ◌≤◌}
-use native.Mathlib.Decide.{dec_le}
+use Prim.Native.Nat.{ℕ, suc, ◌+◌, ◌<◌, ◌≤◌}
 use native.Mathlib.Numerals.{add-one}
 use native.Mathlib.Omega.{arith}
-use borrow.Author.Tests.{eq-eqb, ne_eqb}
-use lib.Dec.{eqb}
-use lib.ListN.{length, take, drop, get_or}
+use borrow.Author.Tests.{ltb-false}
+use lib.Dec.{eqb, ltb}
+use lib.ListN.{length, take, drop}
+use Rattle.std.specs.Prelude.{Some, None}
+use Rattle.std.specs.declared.option.Option.{Option}
+use Rattle.std.specs.Option.{unwrap_or}
+use Rattle.std.specs.List.{position_or_len}
+use Rattle.std.proofs.lemmas.List.Recursion.{is_position_or_len}
 use Rattle.text.specs.Bytes.{place, place_by, parted, parting}
 
 pub place-le : (b : ℕ) (l : List ℕ) → place b l ≤ length l
@@ -42,20 +46,23 @@ parted-whole b (x ∷ xs) e = go (parted-whole b xs) (eqb x b) e
     go r true q = absurd (omega arith)
     go r false q = rw (r (omega arith))
 
-pub place_is : (b : ℕ) (l : List ℕ) (i : ℕ) → i ≤ length l → ((k : ℕ) → k < i → get_or l k 0 ≡ b → ⊥) → (i < length l → get_or l i 0 ≡ b) → place b l ≡ i
+-- where `position` finds it
+pub position-place : (b : ℕ) (l : List ℕ) → place b l ≡ position_or_len (λ x. eqb x b) l
 unfolding place
-place_is b [] zero h out here = refl
-place_is b [] (suc i) h out here = absurd (omega arith)
-place_is b (x ∷ xs) zero h out here = rw (eq-eqb x b (here (omega arith)))
-place_is b (x ∷ xs) (suc i) h out here =
-    rw (ne_eqb x b (out 0 (omega arith))) (ap suc (place_is b xs i (omega arith) (λ k l. out (suc k) (omega arith)) (λ l. here (omega arith))))
+position-place b l = is_position_or_len (place b) (λ x. eqb x b) refl (λ x xs. go (eqb x b) (place b xs)) l
+  where
+    go : (t : Bool) (n : ℕ) → place_by t n ≡ cond t 0 (1 + n)
+    go true n = refl
+    go false n = omega arith
 
--- the place k as `find` gives it
-pub found_inside : (b : ℕ) (l : List ℕ) (k : ℕ) → k ≡ place b l → (k ≡ length l → ⊥) → k < length l
-found_inside b l k e h = omega (arith, place-le b l)
-
-pub parted-at : (b : ℕ) (l : List ℕ) (k : ℕ) → k ≡ place b l → (k ≡ length l → ⊥) → parted b l ≡ take k l ∷ parted b (drop (k + 1) l)
-parted-at b l k e h = rw (parted-cut b l (omega (arith, place-le b l)), e)
+pub place_found : (b : ℕ) (l : List ℕ) {o : Option ℕ} {r : ℕ}
+    → o ≡ cond (ltb (position_or_len (λ x. eqb x b) l) (length l)) (Some (position_or_len (λ x. eqb x b) l)) None
+    → r ≡ unwrap_or o (length l) → r ≡ place b l
+place_found b l e q = rw (q, e, ← position-place b l) (go (ltb (place b l) (length l)) refl)
+  where
+    go : (t : Bool) → ltb (place b l) (length l) ≡ t → unwrap_or (cond t (Some (place b l)) None) (length l) ≡ place b l
+    go true h = refl
+    go false h = omega (arith, ltb-false (place b l) (length l) h, place-le b l)
 
 -- a text has a first piece
 pub parted-some : (P : List (List ℕ) → Type 0) → ((p : List ℕ) (ps : List (List ℕ)) → P (p ∷ ps)) → (b : ℕ) (l : List ℕ) → P (parted b l)
@@ -67,19 +74,3 @@ parted-some P some b (x ∷ xs) = go (eqb x b) (parted b xs)
     go true ps = some [] ps
     go false [] = some (x ∷ []) []
     go false (p ∷ ps) = some (x ∷ p) ps
-
--- a text is one piece, or has the one before its first byte b and more
-pub parted-cases : (P : List (List ℕ) → Type 0) (b : ℕ) (l : List ℕ)
-    → (place b l ≡ length l → P (l ∷ []))
-    → (place b l < length l → (p : List ℕ) (ps : List (List ℕ)) → P (take (place b l) l ∷ p ∷ ps))
-    → P (parted b l)
-parted-cases P b l one more = elim (dec_le (length l) (place b l)) [
-  | yes h ↦ whole (omega (arith, place-le b l))
-  | no h ↦ cut (omega arith)
-]
-  where
-    whole : place b l ≡ length l → P (parted b l)
-    whole e = rw (parted-whole b l e) (one e)
-
-    cut : place b l < length l → P (parted b l)
-    cut h = rw (parted-cut b l h) (parted-some (λ ps. P (take (place b l) l ∷ ps)) (more h) b (drop (place b l + 1) l))

@@ -8,12 +8,12 @@ use native.Mathlib.Numerals.{add-one}
 use native.Mathlib.Omega.{arith}
 use borrow.Author.Tests.{ltb-false, ne_eqb}
 use lib.Dec.{eqb}
+use Rattle.std.specs.Prelude.{Some, None}
+use Rattle.std.specs.declared.option.Option.{Option}
 use Rattle.model.specs.Answers.{Reply, answered, refused}
 use Rattle.model.specs.Graph.{Graph, Accepted, absent}
-use Rattle.text.specs.declared.lines.InitialCost.{InitialCost}
-use Rattle.text.specs.declared.lines.InitialCost.TheVariants.{Absent, Cost}
 use Rattle.text.specs.declared.lines.Line.{Line}
-use Rattle.text.specs.declared.lines.Line.TheVariants.{Vertex, Edge, Illegal}
+use Rattle.text.specs.declared.lines.Line.TheVariants.{Vertex, Edge}
 use Rattle.text.specs.declared.counts.Counts.{Counts}
 use Rattle.text.specs.Lines.{lines_of}
 use Rattle.text.specs.Print.{decimal, initial_by, vertex_text, edge_text, vertices_text, edges_text, printed, Prints}
@@ -25,16 +25,16 @@ use Rattle.text.proofs.Passed.{Fine, Within, none_within, within-counted, fine-f
 
 -- ---- lines without a fault are legal
 
-fine-cost : (i : InitialCost) → dear i ≡ false → LegalCost i
-fine-cost Absent e = tt
-fine-cost (Cost c) e = omega (arith, ltb-false 999999 c e)
+fine-cost : (i : Option ℕ) → dear i ≡ false → LegalCost i
+fine-cost None e = tt
+fine-cost (Some c) e = omega (arith, ltb-false 999999 c e)
 
-fine-legal : (k : Counts) (x : Line) → Within k → Fine k x → Legal x
-fine-legal k Illegal w f = f
-fine-legal k (Vertex n i) w f = (omega arith, fine-cost i f.3)
-fine-legal k (Edge m n c) w f = omega arith
+fine-legal : (k : Counts) (x : Option Line) → Within k → Fine k x → Legal x
+fine-legal k None w f = f
+fine-legal k (Some (Vertex n i)) w f = (omega arith, fine-cost i f.3)
+fine-legal k (Some (Edge m n c)) w f = omega arith
 
-judged-legal : (n : ℕ) (k : Counts) (xs : List Line) {z : Counts} → Within k → judge_from n k xs ≡ answered z → AllLegal xs
+judged-legal : (n : ℕ) (k : Counts) (xs : List (Option Line)) {z : Counts} → Within k → judge_from n k xs ≡ answered z → AllLegal xs
 judged-legal n k [] w e = tt
 judged-legal n k (x ∷ xs) w e =
     let f = fine-first n k x xs e in
@@ -42,48 +42,48 @@ judged-legal n k (x ∷ xs) w e =
 
 -- ---- their text is their graph's, printed
 
-initial-text : (i : InitialCost) → dear i ≡ false → initial_text i ≡ initial_by (eqb (initial_word i) absent) (initial_word i)
-initial-text Absent e = refl
-initial-text (Cost c) e = rw (ne_eqb c absent (omega (arith, ltb-false 999999 c e)))
+initial-text : (i : Option ℕ) → dear i ≡ false → initial_text i ≡ initial_by (eqb (initial_word i) absent) (initial_word i)
+initial-text None e = refl
+initial-text (Some c) e = rw (ne_eqb c absent (omega (arith, ltb-false 999999 c e)))
 
 -- LF behind the last field
 fields-end : (f g l : List ℕ) → (f ++ (44 ∷ g)) ++ (10 ∷ l) ≡ (f ++ (44 ∷ (g ++ (10 ∷ [])))) ++ l
 fields-end f g l = simp append_assoc
 
-vertex-text : (n : ℕ) (i : InitialCost) (l : List ℕ) → dear i ≡ false → line_text (Vertex n i) ++ (10 ∷ l) ≡ vertex_text n (initial_word i) ++ l
+vertex-text : (n : ℕ) (i : Option ℕ) (l : List ℕ) → dear i ≡ false → line_text (Some (Vertex n i)) ++ (10 ∷ l) ≡ vertex_text n (initial_word i) ++ l
 unfolding vertex_text
 vertex-text n i l e =
     ap (λ (r : List ℕ). 77 ∷ 44 ∷ r) (fields-end (decimal n) (initial_text i) l ∙ ap (λ (c : List ℕ). (decimal n ++ (44 ∷ (c ++ (10 ∷ [])))) ++ l) (initial-text i e))
 
-edge-text : (m n c : ℕ) (l : List ℕ) → line_text (Edge m n c) ++ (10 ∷ l) ≡ edge_text (record { from = m; to = n; cost = c }) ++ l
+edge-text : (m n c : ℕ) (l : List ℕ) → line_text (Some (Edge m n c)) ++ (10 ∷ l) ≡ edge_text (record { from = m; to = n; cost = c }) ++ l
 unfolding edge_text
 edge-text m n c l = simp append_assoc
 
 -- no vertex line stands below an edge line
-no-initials : (n : ℕ) (k : Counts) (xs : List Line) {z : Counts} → judge_from n k xs ≡ answered z → 0 < k.edges → initials_of xs ≡ []
+no-initials : (n : ℕ) (k : Counts) (xs : List (Option Line)) {z : Counts} → judge_from n k xs ≡ answered z → 0 < k.edges → initials_of xs ≡ []
 unfolding initials_of counted
 no-initials n k [] e h = refl
-no-initials n k (Illegal ∷ xs) e h = absurd (fine-first n k Illegal xs e)
-no-initials n k (Vertex v i ∷ xs) e h = absurd (omega (arith, (fine-first n k (Vertex v i) xs e).0))
-no-initials n k (Edge a b c ∷ xs) e h = no-initials (n + 1) (counted k (Edge a b c)) xs (passes-rest n k (Edge a b c) xs e) (omega arith)
+no-initials n k (None ∷ xs) e h = absurd (fine-first n k None xs e)
+no-initials n k (Some (Vertex v i) ∷ xs) e h = absurd (omega (arith, (fine-first n k (Some (Vertex v i)) xs e).0))
+no-initials n k (Some (Edge a b c) ∷ xs) e h = no-initials (n + 1) (counted k (Some (Edge a b c))) xs (passes-rest n k (Some (Edge a b c)) xs e) (omega arith)
 
-judged-text : (n : ℕ) (k : Counts) (xs : List Line) {z : Counts} → judge_from n k xs ≡ answered z
+judged-text : (n : ℕ) (k : Counts) (xs : List (Option Line)) {z : Counts} → judge_from n k xs ≡ answered z
     → lines_text xs ≡ vertices_text k.vertices (initials_of xs) ++ edges_text (edges_of xs)
 unfolding initials_of edges_of counted vertices_text edges_text
 judged-text n k [] e = refl
-judged-text n k (Illegal ∷ xs) e = absurd (fine-first n k Illegal xs e)
-judged-text n k (Vertex v i ∷ xs) e =
-    let f = fine-first n k (Vertex v i) xs e in
-    let r = judged-text (n + 1) (counted k (Vertex v i)) xs (passes-rest n k (Vertex v i) xs e) in
+judged-text n k (None ∷ xs) e = absurd (fine-first n k None xs e)
+judged-text n k (Some (Vertex v i) ∷ xs) e =
+    let f = fine-first n k (Some (Vertex v i)) xs e in
+    let r = judged-text (n + 1) (counted k (Some (Vertex v i))) xs (passes-rest n k (Some (Vertex v i)) xs e) in
     vertex-text v i (lines_text xs) f.3
     ∙ rw (r, f.1, add-one k.vertices) (sym (append_assoc (vertex_text k.vertices (initial_word i)) (vertices_text (suc k.vertices) (initials_of xs)) (edges_text (edges_of xs))))
-judged-text n k (Edge a b c ∷ xs) e =
-    let rest = passes-rest n k (Edge a b c) xs e in
-    let none = no-initials (n + 1) (counted k (Edge a b c)) xs rest (omega arith) in
-    let r = judged-text (n + 1) (counted k (Edge a b c)) xs rest in
+judged-text n k (Some (Edge a b c) ∷ xs) e =
+    let rest = passes-rest n k (Some (Edge a b c)) xs e in
+    let none = no-initials (n + 1) (counted k (Some (Edge a b c))) xs rest (omega arith) in
+    let r = judged-text (n + 1) (counted k (Some (Edge a b c))) xs rest in
     edge-text a b c (lines_text xs) ∙ rw (r, none)
 
-judged-printed : (xs : List Line) {z : Counts} → judge_from 1 no_counts xs ≡ answered z → lines_text xs ≡ printed (graph_of_lines xs)
+judged-printed : (xs : List (Option Line)) {z : Counts} → judge_from 1 no_counts xs ≡ answered z → lines_text xs ≡ printed (graph_of_lines xs)
 unfolding printed
 judged-printed xs e = judged-text 1 no_counts xs e
 
@@ -99,13 +99,13 @@ only text g e = go (judge_text text) refl e
         lines-text text (judged-legal 1 no_counts (lines_of text) none_within j) ∙ judged-printed (lines_of text) j ∙ ap printed same
     go (refused f n) j q = absurd (answered-refused g f n (sym q))
 
-read-lines : (text : List ℕ) (xs : List Line) {z : Counts} → lines_of text ≡ xs → judge_from 1 no_counts xs ≡ answered z → read_graph text ≡ answered (graph_of_lines xs)
+read-lines : (text : List ℕ) (xs : List (Option Line)) {z : Counts} → lines_of text ≡ xs → judge_from 1 no_counts xs ≡ answered z → read_graph text ≡ answered (graph_of_lines xs)
 unfolding read_graph
 read-lines text xs e j = rw (e, j)
 
 reads : (g : Graph) → Accepted g → read_graph (printed g) ≡ answered g
 reads g a =
-    let xs : List Line = graph_lines g in
+    let xs : List (Option Line) = graph_lines g in
     let judged : judge_from 1 no_counts xs ≡ answered (graph-answered g a).0 = (graph-answered g a).1 1 in
     let text : printed g ≡ lines_text xs = sym (judged-printed xs judged ∙ ap printed (graph-of-lines g)) in
     let lines : lines_of (printed g) ≡ xs = ap lines_of text ∙ lines-of xs (judged-legal 1 no_counts xs none_within judged) in

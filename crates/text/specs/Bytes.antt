@@ -1,11 +1,10 @@
 -- Bytes and numbers of a text.
 -- Assumes nothing.
-use Rattle.std.specs.Prelude.{Bool, true, false, not, ◌&&◌, ◌||◌, List, [], ◌∷◌, ℕ, suc, ◌+◌, ◌-◌, ◌*◌, eqb, leb, length, get_or}
+use Rattle.std.specs.Prelude.{Bool, true, false, not, ◌&&◌, ◌||◌, Some, None, List, [], ◌∷◌, ℕ, suc, ◌+◌, ◌-◌, ◌*◌, eqb, leb, length, get_or}
+use Rattle.std.specs.declared.option.Option.{Option}
 use Prim.Native.Char.{code}
 use Prim.Native.String as string
 use Rattle.model.specs.Lists.{allb}
-use Rattle.text.specs.declared.bytes.Number.{Number}
-use Rattle.text.specs.declared.bytes.Number.TheVariants.{Of, Illegal}
 
 -- LF, `,` and `-`, `0` and `9`, `L` and `M`
 abbrev pub line_feed : ℕ
@@ -64,18 +63,18 @@ is_only b (x ∷ y ∷ l) = false
 abbrev pub is_digit : ℕ → Bool
 is_digit x = leb digit0 x && leb x digit9
 
-abbrev pub legal_if : Bool → Number → Number
+abbrev pub legal_if : Bool → Option ℕ → Option ℕ
 legal_if true n = n
-legal_if false n = Illegal
+legal_if false n = None
 
 -- the digits of a text, read on from the value v
-unfoldable pub digits_from : ℕ → List ℕ → Number
-digits_from v [] = Of v
+unfoldable pub digits_from : ℕ → List ℕ → Option ℕ
+digits_from v [] = Some v
 digits_from v (x ∷ xs) = legal_if (is_digit x) (digits_from (v * 10 + (x - digit0)) xs)
 
 abbrev pub number_tests : List ℕ → List Bool
 number_tests l = leb 1 (length l) ∷ leb (length l) 10 ∷ (leb (length l) 1 || not (eqb (get_or l 0 0) digit0)) ∷ []
 
-unfoldable pub number_of : List ℕ → Number
+unfoldable pub number_of : List ℕ → Option ℕ
 unfolding digits_from
 number_of l = legal_if (allb (number_tests l)) (digits_from 0 l)

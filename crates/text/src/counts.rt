@@ -1,13 +1,13 @@
 // The whole text is judged, line by line, before anything is made of it.
-ghost use Rattle.std.specs.Prelude.{◌≡◌, ◌+◌, ◌<◌, ◌≤◌};
+ghost use Rattle.std.specs.Prelude.{◌≡◌, ◌≤◌, None, Some, MatchResult};
 ghost use Rattle.model.specs.Limits.{vertex_limit, edge_limit};
+ghost use Rattle.model.specs.Answers.{number};
 ghost use Rattle.model.specs.Calls.{first_fault};
 ghost use Rattle.text.specs.Read.{line_faults, check_fault, counted, judge_text, judged_reply};
 
-use crate::bytes::find;
-use crate::lines::{InitialCost, Line, read_line};
-use model::Refusal;
+use crate::lines::{Line, read_ended};
 use model::limits::{MAX_COST, MAX_EDGES, MAX_VERTICES};
+use model::{Refusal, Refused};
 
 // Vertices and edges.
 #[derive(Clone, Copy)]
@@ -16,131 +16,82 @@ pub struct Counts {
     pub edges: usize,
 }
 
-#[derive(Clone, Copy)]
-pub enum Check {
-    Passed,
-    Fault(Refusal),
-}
-
-#[derive(Clone, Copy)]
-pub enum Judged {
-    Sizes(Counts),
-    Fault { refusal: Refusal, line: usize },
-}
-
 impl Counts {
     // The faults of a line below these vertices and edges.
-    fn check(self, line: Line) -> Check
-        ensures { check_fault result ≡ first_fault (line_faults self line) }
+    fn check(self, line: Line) -> Result<(), Refusal>
+        ensures { check_fault result ≡ first_fault (line_faults self (Some line)) }
     {
         match line {
-            Line::Illegal => Check::Fault(Refusal::Malformed),
             Line::Vertex { number, initial } => self.check_vertex(number, initial),
             Line::Edge { from, to, cost } => self.check_edge(from, to, cost),
         }
     }
 
-    fn check_vertex(self, number: usize, initial: InitialCost) -> Check
-        ensures { check_fault result ≡ first_fault (line_faults self (Line.Vertex number initial)) }
+    #[tactic(auto, unfolding(crate::specs::Read::line_faults))]
+    fn check_vertex(self, number: usize, initial: Option<usize>) -> Result<(), Refusal>
+        ensures { check_fault result ≡ first_fault (line_faults self (Some (Line.Vertex number initial))) }
     {
-        if 0 < self.edges {
-            return Check::Fault(Refusal::OutOfOrder);
+        if 0 < self.edges || number != self.vertices {
+            return Err(Refusal::OutOfOrder);
         }
-        if number != self.vertices {
-            return Check::Fault(Refusal::OutOfOrder);
+        if MAX_VERTICES <= self.vertices || initial.is_some_and(|c| MAX_COST < c) {
+            return Err(Refusal::OverLimit);
         }
-        if MAX_VERTICES <= self.vertices {
-            return Check::Fault(Refusal::OverLimit);
-        }
-        let InitialCost::Cost(c) = initial else {
-            return Check::Passed;
-        };
-        if MAX_COST < c {
-            return Check::Fault(Refusal::OverLimit);
-        }
-        Check::Passed
+        Ok(())
     }
 
-    fn check_edge(self, from: usize, to: usize, cost: usize) -> Check
-        ensures { check_fault result ≡ first_fault (line_faults self (Line.Edge from to cost)) }
+    #[tactic(auto, unfolding(crate::specs::Read::line_faults))]
+    fn check_edge(self, from: usize, to: usize, cost: usize) -> Result<(), Refusal>
+        ensures { check_fault result ≡ first_fault (line_faults self (Some (Line.Edge from to cost))) }
     {
-        if MAX_EDGES <= self.edges {
-            return Check::Fault(Refusal::OverLimit);
+        if MAX_EDGES <= self.edges || MAX_COST < cost {
+            return Err(Refusal::OverLimit);
         }
-        if MAX_COST < cost {
-            return Check::Fault(Refusal::OverLimit);
+        if self.vertices <= from || self.vertices <= to {
+            return Err(Refusal::NoSuchVertex);
         }
-        if self.vertices <= from {
-            return Check::Fault(Refusal::NoSuchVertex);
-        }
-        if self.vertices <= to {
-            return Check::Fault(Refusal::NoSuchVertex);
-        }
-        Check::Passed
+        Ok(())
     }
 
-    // These with the line counted.
-    pub fn count(self, line: Line) -> Counts
+    // These with a line below them counted, or its first fault. A line of no legal form is none.
+    #[tactic(auto, unfolding(crate::specs::Read::line_faults))]
+    fn judge(self, line: Option<Line>) -> Result<Counts, Refusal>
+        requires { (self.vertices ≤ vertex_limit) × (self.edges ≤ edge_limit) }
+        ensures { MatchResult result (λ k. (None ≡ first_fault (line_faults self line)) × (k ≡ counted self line)) (λ r. Some (number r) ≡ first_fault (line_faults self line)) }
+    {
+        self.check(line.ok_or(Refusal::Malformed)?)?;
+        Ok(self.count(line))
+    }
+
+    // These with the line counted. A line of no legal form counts for nothing.
+    #[tactic(auto, unfolding(crate::specs::Read::counted))]
+    pub fn count(mut self, line: Option<Line>) -> Counts
         requires { (self.vertices ≤ vertex_limit) × (self.edges ≤ edge_limit) }
         ensures { result ≡ counted self line }
     {
-        let vertices = self.vertices;
-        let edges = self.edges;
         match line {
-            Line::Illegal => self,
-            Line::Vertex {
-                number: _,
-                initial: _,
-            } => Counts {
-                vertices: vertices + 1,
-                edges,
-            },
-            Line::Edge {
-                from: _,
-                to: _,
-                cost: _,
-            } => Counts {
-                vertices,
-                edges: edges + 1,
-            },
+            Some(Line::Vertex { .. }) => self.vertices += 1,
+            Some(Line::Edge { .. }) => self.edges += 1,
+            None => {}
         }
+        self
     }
 }
 
 // The first fault of the text, with its line, or how many vertices and edges it has.
-pub fn judge_text(text: &[u8]) -> Judged
+pub fn judge_text(text: &[u8]) -> Result<Counts, Refused>
     ensures { judged_reply result ≡ judge_text text.now }
 {
     let mut counts = Counts {
         vertices: 0,
         edges: 0,
     };
-    let mut above: usize = 0;
-    let mut at = 0;
-    while at < text.len() {
-        let rest = &text[at..];
-        let k = find(rest, b'\n');
-        if k == rest.len() {
-            return fault_below(above, Refusal::Malformed);
-        }
-        let form = read_line(&rest[0..k]);
-        if let Check::Fault(refusal) = counts.check(form) {
-            return fault_below(above, refusal);
-        }
-        counts = counts.count(form);
-        at = at + k + 1;
-        above += 1;
+    let mut line: usize = 1;
+    for piece in text.split_inclusive(|b| *b == b'\n') {
+        counts = counts
+            .judge(read_ended(piece))
+            .map_err(|refusal| Refused { refusal, line })?;
+        line += 1;
     }
-    Judged::Sizes(counts)
-}
-
-// A fault in the line that has `above` lines above it.
-fn fault_below(above: usize, refusal: Refusal) -> Judged
-    requires { above < 18446744073709551615 }
-    ensures { result ≡ Judged.Fault refusal (above + 1) }
-{
-    Judged::Fault {
-        refusal,
-        line: above + 1,
-    }
+    Ok(counts)
 }

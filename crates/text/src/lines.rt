@@ -1,85 +1,78 @@
 // The two kinds of line.
 ghost use Rattle.std.specs.Prelude.{◌≡◌};
-ghost use Rattle.text.specs.Lines.{cost_of, vertex_of, edge_of, line_of};
+ghost use Rattle.text.specs.Lines.{vertex_of, edge_of, line_of, ended_line};
 
-use crate::fields::{Fields, HYPHEN, MAX_NUMBER, read_lettered};
-
-#[derive(Clone, Copy)]
-pub enum InitialCost {
-    Absent,
-    Cost(usize),
-}
+use crate::fields::{Field, Fields, read_lettered};
 
 #[derive(Clone, Copy)]
 pub enum Line {
-    Vertex { number: usize, initial: InitialCost },
-    Edge { from: usize, to: usize, cost: usize },
-    Illegal,
+    Vertex {
+        number: usize,
+        initial: Option<usize>,
+    },
+    Edge {
+        from: usize,
+        to: usize,
+        cost: usize,
+    },
 }
 
-// A line's bytes, without its LF.
-pub fn read_line(s: &[u8]) -> Line
+// A line's bytes, of which the last must be LF.
+pub fn read_ended(s: &[u8]) -> Option<Line>
+    ensures { result ≡ ended_line s.now }
+{
+    let line = s.strip_suffix(b"\n")?;
+    read_line(line)
+}
+
+// A line's bytes, without its LF. It may have no legal form.
+#[tactic(auto, unfolding(crate::specs::Lines::line_of))]
+pub fn read_line(s: &[u8]) -> Option<Line>
     ensures { result ≡ line_of s.now }
 {
-    let line = read_lettered(s);
-    let fields = line.fields;
-    if line.letter == b'M' {
-        return vertex_line(fields);
+    let line = read_lettered(s)?;
+    match line.letter {
+        b'M' => vertex_line(line.fields),
+        b'L' => edge_line(line.fields),
+        _ => None,
     }
-    if line.letter == b'L' {
-        return edge_line(fields);
-    }
-    Line::Illegal
 }
 
 // The fields behind `M`.
-fn vertex_line(f: Fields) -> Line
+fn vertex_line(f: Fields) -> Option<Line>
     ensures { result ≡ vertex_of f }
 {
-    let number = f.values[0];
-    let initial = f.values[1];
     if f.count != 2 {
-        return Line::Illegal;
+        return None;
     }
-    if MAX_NUMBER < number {
-        return Line::Illegal;
+    match f.values {
+        [Field::Number(number), Field::Number(c), ..] => Some(Line::Vertex {
+            number,
+            initial: Some(c),
+        }),
+        [Field::Number(number), Field::Hyphen, ..] => Some(Line::Vertex {
+            number,
+            initial: None,
+        }),
+        _ => None,
     }
-    if HYPHEN < initial {
-        return Line::Illegal;
-    }
-    Line::Vertex {
-        number,
-        initial: initial_cost(initial),
-    }
-}
-
-fn initial_cost(value: usize) -> InitialCost
-    ensures { result ≡ cost_of value }
-{
-    if value == HYPHEN {
-        return InitialCost::Absent;
-    }
-    InitialCost::Cost(value)
 }
 
 // The fields behind `L`.
-fn edge_line(f: Fields) -> Line
+fn edge_line(f: Fields) -> Option<Line>
     ensures { result ≡ edge_of f }
 {
-    let from = f.values[0];
-    let to = f.values[1];
-    let cost = f.values[2];
     if f.count != 3 {
-        return Line::Illegal;
+        return None;
     }
-    if MAX_NUMBER < from {
-        return Line::Illegal;
-    }
-    if MAX_NUMBER < to {
-        return Line::Illegal;
-    }
-    if MAX_NUMBER < cost {
-        return Line::Illegal;
-    }
-    Line::Edge { from, to, cost }
+    let [
+        Field::Number(from),
+        Field::Number(to),
+        Field::Number(cost),
+        ..
+    ] = f.values
+    else {
+        return None;
+    };
+    Some(Line::Edge { from, to, cost })
 }

@@ -1,6 +1,8 @@
 -- A node more: its words are written, it is counted, and its ticket is queued.
 -- Assumes nothing.
 use mathlib.Core.Path.{◌≡◌, refl, sym, ap, ap₂, ◌∙◌}
+use Rattle.std.specs.declared.option.Option.{Option}
+use Rattle.std.specs.Prelude.{None, Some}
 use mathlib.Core.Logic.{◌≢◌}
 use mathlib.Core.Bool.{Bool, false}
 use mathlib.Core.List.{List, [], ◌∷◌, ◌++◌}
@@ -21,8 +23,6 @@ use Rattle.queue.specs.Queue.{figures, evaluation_in, one, times, key, rank, Can
 use Rattle.queue.proofs.Keys.{key-words}
 use Rattle.queue.proofs.Times.{one_same, one-other, times-ext, place-times}
 use Rattle.tree.specs.declared.Node.{Node as NodeWords}
-use Rattle.tree.specs.declared.partial_keyed_closed_set.ClosedStatus.{ClosedStatus}
-use Rattle.tree.specs.declared.partial_keyed_closed_set.ClosedStatus.TheVariants.{Open, Closed}
 use Rattle.tree.specs.Tree.{tree_of, node_of, Formed, status_of, CanAdd, CanPushNode, Adds, PushesNode}
 use Rattle.tree.proofs.Same.{closed_same}
 use Rattle.tree.proofs.Waiting.{waits, waiting-pushed, waits-node}
@@ -231,7 +231,7 @@ module _ {l : ℕ} {s : List ℕ} (h : CanAdd l s) (x : NodeWords) {n q : ℕ} {
 -- ---- unless the vertex is closed at no greater cost
 
 -- r: the status of the node's vertex v
-module _ {l : ℕ} {s : List ℕ} {x : NodeWords} (c : CanPushNode l s x) {v : ℕ} (e : v ≡ x.vertex) {r : ClosedStatus} (is : r ≡ status_of (closed_word_in l s v)) where
+module _ {l : ℕ} {s : List ℕ} {x : NodeWords} (c : CanPushNode l s x) {v : ℕ} (e : v ≡ x.vertex) {r : Option ℕ} (is : r ≡ status_of (closed_word_in l s v)) where
   abbrev word : ℕ
   word = closed_word_in l s x.vertex
 
@@ -248,11 +248,11 @@ module _ {l : ℕ} {s : List ℕ} {x : NodeWords} (c : CanPushNode l s x) {v : �
   added : {t : List ℕ} → ((ws : List ℕ) → closed_within (tree_of ws l s).nodes new word ≡ false) → Adds l s t (node_of x) → PushesNode l s t (node_of x)
   added q held = record { tree = λ ws. held.tree ws ∙ push-is ws (q ws); formed = held.formed }
 
-  pub push-open : r ≡ Open → {t : List ℕ} → Adds l s t (node_of x) → PushesNode l s t (node_of x)
+  pub push-open : r ≡ None → {t : List ℕ} → Adds l s t (node_of x) → PushesNode l s t (node_of x)
   push-open o {t} held = added (λ ws. ap (closed_within (tree_of ws l s).nodes new) (open-word word (sym o ∙ status-is))) held
 
   -- closed by node n
-  module _ {n : ℕ} (o : r ≡ Closed n) where
+  module _ {n : ℕ} (o : r ≡ Some n) where
     closer : word ≡ suc n
     closer = closer-word word n (sym o ∙ status-is)
 

@@ -1,6 +1,7 @@
 -- The closed words of a tree: what a word says, the node that closed a vertex, and closing one.
 -- Assumes nothing.
 use mathlib.Core.Path.{◌≡◌, refl, sym, ap, ◌∙◌}
+use Rattle.std.specs.Prelude.{None, Some}
 use mathlib.Core.Logic.{◌≢◌}
 use mathlib.Core.List.{List}
 use Prim.Native.Nat.{ℕ, zero, suc, ◌+◌, ◌-◌, ◌/◌, ◌<◌, ◌≤◌}
@@ -17,7 +18,6 @@ use Rattle.layout.proofs.Trees.{nodes-same, tree-node, tree-closed}
 use Rattle.queue.specs.Queue.{evaluation_in, rank}
 use Rattle.queue.proofs.Times.{times-ext}
 use Rattle.queue.proofs.Keys.{rank-ext, node-evaluation}
-use Rattle.tree.specs.declared.partial_keyed_closed_set.ClosedStatus.TheVariants.{Open, Closed}
 use Rattle.tree.specs.Tree.{tree_of, Formed, HasVertex, status_of, CanClose, Closes}
 
 -- ---- a closed word; the words start at place a
@@ -30,15 +30,15 @@ module _ (l : ℕ) (t : List ℕ) (v a : ℕ) (h : HasVertex l t v) (e : a ≡ c
   named : closed_word_in l t v ≡ get_or t (a + v) 0
   named = ap (λ (x : ℕ). get_or t (x + v) 0) (sym e)
 
-  pub status-open : get_or t (a + v) 0 ≡ 0 → Open ≡ status_of (closed_word_in l t v)
+  pub status-open : get_or t (a + v) 0 ≡ 0 → None ≡ status_of (closed_word_in l t v)
   status-open z = sym (ap status_of (named ∙ z))
 
-  pub status-closed : get_or t (a + v) 0 ≢ 0 → Closed (get_or t (a + v) 0 - 1) ≡ status_of (closed_word_in l t v)
+  pub status-closed : get_or t (a + v) 0 ≢ 0 → Some (get_or t (a + v) 0 - 1) ≡ status_of (closed_word_in l t v)
   status-closed = go (get_or t (a + v) 0) named
     where
-      go : (n : ℕ) → closed_word_in l t v ≡ n → n ≢ 0 → Closed (n - 1) ≡ status_of (closed_word_in l t v)
+      go : (n : ℕ) → closed_word_in l t v ≡ n → n ≢ 0 → Some (n - 1) ≡ status_of (closed_word_in l t v)
       go zero w ne = absurd (ne refl)
-      go (suc n) w ne = ap Closed (omega arith) ∙ sym (ap status_of w)
+      go (suc n) w ne = ap Some (omega arith) ∙ sym (ap status_of w)
 
 -- the word that a tree has for a vertex
 pub tree-word : (ws : List ℕ) (l : ℕ) (t : List ℕ) (v : ℕ) → HasVertex l t v → closed_at (tree_of ws l t).closed v ≡ closed_word_in l t v
@@ -46,11 +46,11 @@ tree-word ws l t v h = closed-word l t v (closed_words_at l) h refl ws
 
 -- the word by the status
 
-pub open-word : (n : ℕ) → Open ≡ status_of n → n ≡ 0
+pub open-word : (n : ℕ) → None ≡ status_of n → n ≡ 0
 open-word zero e = refl
 open-word (suc n) e = cc
 
-pub closer-word : (n k : ℕ) → Closed k ≡ status_of n → n ≡ suc k
+pub closer-word : (n k : ℕ) → Some k ≡ status_of n → n ≡ suc k
 closer-word zero k e = cc
 closer-word (suc n) k e = ap suc cc
 

@@ -1,8 +1,9 @@
 -- Taking the first ticket: it is the least of the waiting nodes, and the tree is as it was but for it.
 -- Assumes nothing.
 use mathlib.Core.Path.{◌≡◌, refl, sym, ap, ◌∙◌}
+use Rattle.std.specs.declared.option.Option.{Option}
+use Rattle.std.specs.Prelude.{None, Some}
 use mathlib.Core.Logic.{inl, inr}
-use mathlib.Core.Option.{none, some}
 use mathlib.Core.List.{List, [], ◌∷◌, Memᴰ}
 use Prim.Native.Nat.{ℕ, ◌+◌, ◌<◌, ◌≤◌}
 use native.Mathlib.Omega.{arith}
@@ -13,8 +14,6 @@ use Rattle.model.proofs.Lists.{Before, before-one, Least, least-is}
 use Rattle.layout.specs.Layout.{queue_at, closed_words_at, queued_in, used_in, start_at, used_at, queue_word_in}
 use Rattle.layout.proofs.Trees.{nodes-same}
 use Rattle.layout.specs.Read.{nodes_in, tree_in}
-use Rattle.queue.specs.declared.Popped.{Popped}
-use Rattle.queue.specs.declared.Popped.TheVariants.{Ticket, Empty}
 use Rattle.queue.specs.Queue.{evaluation_in, key, rank, one, times, CanPop, Taken, Takes, PoppedIs}
 use Rattle.queue.proofs.Times.{one_same, times-place, place-times}
 use Rattle.tree.specs.Tree.{tree_of, Formed, Pops, PopIs}
@@ -34,7 +33,7 @@ formed-queue f = record {
 
 -- ---- the least ticket
 
-least-one : (ns : List Node) (q : List ℕ) (x : ℕ) → Memᴰ x q → ((j : ℕ) → Memᴰ j q → Before ns x j) → least ns q ≡ some x
+least-one : (ns : List Node) (q : List ℕ) (x : ℕ) → Memᴰ x q → ((j : ℕ) → Memᴰ j q → Before ns x j) → least ns q ≡ Some x
 unfolding least
 least-one ns [] x m f = absurd (mathlib.Core.List.Memᴰ.not-nil m)
 least-one ns (y ∷ ys) x m f =
@@ -42,7 +41,7 @@ least-one ns (y ∷ ys) x m f =
     let r : Least ns y ys n = least-is ns y ys in
     let there : Memᴰ n (y ∷ ys) = elim r.among [ inl z ↦ mathlib.Core.List.Memᴰ.head z | inr z ↦ mathlib.Core.List.Memᴰ.tail z ] in
     let nx : Before ns n x = elim (mathlib.Core.List.Memᴰ.cases_cons m) [ inl z ↦ rw z r.first | inr z ↦ r.firsts x z ] in
-    ap some (before-one ns n x nx (f n there))
+    ap Some (before-one ns n x nx (f n there))
 
 -- the order of keys is the order of tickets
 key-before : (ws : List ℕ) (l : ℕ) (t : List ℕ) (a b : ℕ) → Formed l t → a < used_in t → b < used_in t → key t a ≤ key t b → Before (tree_of ws l t).nodes a b
@@ -57,17 +56,17 @@ key-before ws l t a b f ha hb h = elim (dec_lt (evaluation_in t a) (evaluation_i
 
 -- a waiting node with no lesser key than its own among those that wait is the least
 pub least-key : (ws : List ℕ) {l : ℕ} {t : List ℕ} → Formed l t → (k : ℕ) → 0 < waits l t k → ((x : ℕ) → 0 < waits l t x → key t k ≤ key t x)
-    → least (tree_of ws l t).nodes (tree_of ws l t).waiting ≡ some k
+    → least (tree_of ws l t).nodes (tree_of ws l t).waiting ≡ Some k
 least-key ws {l} {t} f k w h =
     least-one (tree_of ws l t).nodes (tree_of ws l t).waiting k (waiting-has ws l t (queue-fits f) k (waits-node f k w) w)
     (λ j m. let v = waiting-mem ws l t (queue-fits f) j m in key-before ws l t k j f (waits-node f k w) (waits-node f j v) (h j v))
 
 -- with no queue word there is none
-pub least-none : (ws : List ℕ) (l : ℕ) (s : List ℕ) → Formed l s → queued_in s ≡ 0 → least (tree_of ws l s).nodes (tree_of ws l s).waiting ≡ none
+pub least-none : (ws : List ℕ) (l : ℕ) (s : List ℕ) → Formed l s → queued_in s ≡ 0 → least (tree_of ws l s).nodes (tree_of ws l s).waiting ≡ None
 unfolding least
 least-none ws l s f e = go (tree_of ws l s).waiting (waiting-mem ws l s (queue-fits f))
   where
-    go : (q : List ℕ) → ((x : ℕ) → Memᴰ x q → 0 < waits l s x) → least (tree_of ws l s).nodes q ≡ none
+    go : (q : List ℕ) → ((x : ℕ) → Memᴰ x q → 0 < waits l s x) → least (tree_of ws l s).nodes q ≡ None
     go [] h = refl
     go (x ∷ xs) h = absurd (omega (arith, (times-place s (queue_at l) (queued_in s) x (h x (mathlib.Core.List.Memᴰ.head refl))).1))
 
@@ -87,7 +86,7 @@ module _ {l k m : ℕ} {s t : List ℕ} (f : Formed l s) (p : Taken s t (queue_a
   unfolding rank
   first-least x h = let i = times-place s (queue_at l) (queued_in s) x h in rw i.2 at (p.least i.0 (omega (arith, i.1)))
 
-  taken-first : (ws : List ℕ) → least (tree_of ws l s).nodes (tree_of ws l s).waiting ≡ some k
+  taken-first : (ws : List ℕ) → least (tree_of ws l s).nodes (tree_of ws l s).waiting ≡ Some k
   taken-first ws = least-key ws f k waits-first first-least
 
   taken-formed : Formed l t
@@ -128,6 +127,6 @@ module _ {l k m : ℕ} {s t : List ℕ} (f : Formed l s) (p : Taken s t (queue_a
 pub can-pop : {l q : ℕ} {t : List ℕ} → Formed l t → q ≡ queue_at l → CanPop t q
 can-pop f e = rw e (formed-queue f)
 
-pub pop-is : (l q : ℕ) (s t : List ℕ) (r : Popped) → Formed l s → q ≡ queue_at l → PoppedIs s t q r → PopIs l s t r
-pop-is l q s t (Ticket k m) f e p = let x : Takes s t (queue_at l) k m = rw e at p in (x.unstored, taken-pops f x.taken)
-pop-is l q s t Empty f e p = (λ ws. least-none ws l s f p.0, p.1)
+pub pop-is : (l q : ℕ) (s t : List ℕ) (r : Option (ℕ × ℕ)) → Formed l s → q ≡ queue_at l → PoppedIs s t q r → PopIs l s t r
+pop-is l q s t (Some (k, m)) f e p = let x : Takes s t (queue_at l) k m = rw e at p in (x.unstored, taken-pops f x.taken)
+pop-is l q s t None f e p = (λ ws. least-none ws l s f p.0, p.1)

@@ -1,21 +1,15 @@
 -- What the functions on one tree's words promise each other.
 -- Assumes nothing.
-use Rattle.std.specs.Prelude.{◌≡◌, List, ℕ, zero, suc, ◌+◌, ◌-◌, ◌<◌, ◌≤◌, length, get_or, set}
-use Rattle.std.proofs.Math.Option.{none, some}
+use Rattle.std.specs.Prelude.{◌≡◌, List, ℕ, zero, suc, ◌+◌, ◌-◌, ◌<◌, ◌≤◌, length, get_or, set, None, Some}
+use Rattle.std.specs.declared.option.Option.{Option}
 use Rattle.model.specs.Limits.{vertex_limit, edge_limit}
-use Rattle.model.specs.declared.Solution.{Solution}
-use Rattle.model.specs.declared.Solution.TheVariants.{Unsolved, At}
 use Rattle.model.specs.Graph.{Domain}
 use Rattle.model.specs.Search.{closed_count, solution_cost, cheapest, consider}
 use Rattle.model.specs.Tree.{Node, Tree, least, popped, close, closed_at, appended, push_node}
 use Rattle.layout.specs.Layout.{queued_at, queued_in, used_in, node_at, queue_at, queue_word_in, closed_words_at, closed_word_in}
 use Rattle.layout.specs.Read.{tree_in}
-use Rattle.queue.specs.declared.Popped.{Popped}
-use Rattle.queue.specs.declared.Popped.TheVariants.{Ticket, Empty}
 use Rattle.queue.specs.Queue.{times, rank, Heap}
 use Rattle.tree.specs.declared.Node.{Node as NodeWords}
-use Rattle.tree.specs.declared.partial_keyed_closed_set.ClosedStatus.{ClosedStatus}
-use Rattle.tree.specs.declared.partial_keyed_closed_set.ClosedStatus.TheVariants.{Open, Closed}
 use Rattle.tree.specs.declared.partial_keyed_closed_set.CloseResult.{CloseResult}
 use Rattle.tree.specs.declared.partial_keyed_closed_set.CloseResult.TheVariants.{Accepted, Rejected}
 
@@ -49,23 +43,23 @@ HasVertex l t v = closed_words_at l + v < length t
 
 -- t is s with its first ticket, for node k, taken, whatever the words ws of the cache; the queue has m words then
 pub record Pops (l : ℕ) (s t : List ℕ) (k m : ℕ) : Type 0 where
-  pub first : (ws : List ℕ) → least (tree_of ws l s).nodes (tree_of ws l s).waiting ≡ some k
+  pub first : (ws : List ℕ) → least (tree_of ws l s).nodes (tree_of ws l s).waiting ≡ Some k
   pub tree : (ws : List ℕ) → tree_of ws l t ≡ popped (tree_of ws l s) k
   pub formed : Formed l t
   pub node : k < used_in t
   pub left : queued_in t ≡ m
 
 -- the length m is handed back, and not stored yet
-abbrev pub PopIs : ℕ → List ℕ → List ℕ → Popped → Type 0
-PopIs l s t (Ticket k m) = (queued_in t ≡ queued_in s) × Pops l s (set t queued_at m) k m
-PopIs l s t Empty = ((ws : List ℕ) → least (tree_of ws l s).nodes (tree_of ws l s).waiting ≡ none) × (t ≡ s)
+abbrev pub PopIs : ℕ → List ℕ → List ℕ → Option (ℕ × ℕ) → Type 0
+PopIs l s t (Some (k, m)) = (queued_in t ≡ queued_in s) × Pops l s (set t queued_at m) k m
+PopIs l s t None = ((ws : List ℕ) → least (tree_of ws l s).nodes (tree_of ws l s).waiting ≡ None) × (t ≡ s)
 
 -- ---- the closed set
 
 -- a closed word: 0, or one more than the node
-abbrev pub status_of : ℕ → ClosedStatus
-status_of zero = Open
-status_of (suc n) = Closed n
+abbrev pub status_of : ℕ → Option ℕ
+status_of zero = None
+status_of (suc n) = Some n
 
 pub record CanClose (l : ℕ) (t : List ℕ) (v n : ℕ) : Type 0 where
   pub formed : Formed l t
@@ -90,18 +84,18 @@ abbrev pub HasGoals : ℕ → List ℕ → List ℕ → Type 0
 HasGoals l t gs = (i : ℕ) → i < length gs → HasVertex l t (get_or gs i 0)
 
 -- a solution is a node
-abbrev pub HasSolution : List ℕ → Solution → Type 0
-HasSolution t Unsolved = Unit {0}
-HasSolution t (At n) = n < used_in t
+abbrev pub HasSolution : List ℕ → Option ℕ → Type 0
+HasSolution t None = Unit {0}
+HasSolution t (Some n) = n < used_in t
 
 -- node n of the tree t is a solution: what it is worth in the domain d; ws: the words of the tree's cache
 abbrev pub SolutionCostIs : Domain → List ℕ → List ℕ → ℕ → ℕ → Type 0
 SolutionCostIs d ws t n r = (m l : ℕ) → r ≡ solution_cost d (tree_in ws m l t).nodes n
 
-abbrev pub CheapestIs : Domain → List ℕ → ℕ → List ℕ → List ℕ → Solution → Type 0
-CheapestIs d ws l t gs r = r ≡ cheapest d (tree_of ws l t).nodes (tree_of ws l t).closed gs Unsolved
+abbrev pub CheapestIs : Domain → List ℕ → ℕ → List ℕ → List ℕ → Option ℕ → Type 0
+CheapestIs d ws l t gs r = r ≡ cheapest d (tree_of ws l t).nodes (tree_of ws l t).closed gs None
 
-pub record Considers (d : Domain) (ws : List ℕ) (l : ℕ) (t : List ℕ) (o : Solution) (v : ℕ) (r : Solution) : Type 0 where
+pub record Considers (d : Domain) (ws : List ℕ) (l : ℕ) (t : List ℕ) (o : Option ℕ) (v : ℕ) (r : Option ℕ) : Type 0 where
   pub node : HasSolution t r
   pub solution : r ≡ consider d (tree_of ws l t).nodes o (closed_at (tree_of ws l t).closed v)
 

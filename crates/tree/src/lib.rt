@@ -11,9 +11,7 @@ ghost use Rattle.layout.specs.Layout.{queued_at, node_at, NodeFits};
 ghost use Rattle.layout.specs.Words.{node_words};
 ghost use Rattle.tree.specs.Tree.{node_of, Formed, PopIs, CanAdd, CanPushNode, Adds, PushesNode};
 
-use crate::partial_keyed_closed_set::{ClosedStatus, status};
-use layout::wide;
-use queue::Popped;
+use crate::partial_keyed_closed_set::status;
 
 // A node's words.
 #[derive(Clone, Copy)]
@@ -29,13 +27,10 @@ pub fn push_node(tree: &mut [u32], edges: usize, node: Node)
     requires { CanPushNode edges tree.old node }
     ensures { PushesNode edges tree.old tree.new (node_of node) }
 {
-    match status(tree, edges, wide(node.vertex)) {
-        ClosedStatus::Open => {}
-        ClosedStatus::Closed(prior) => {
-            if queue::evaluation(tree, prior) <= queue::evaluation_of(node.cost) {
-                return;
-            }
-        }
+    if let Some(prior) = status(tree, edges, node.vertex as usize)
+        && queue::evaluation(tree, prior) <= queue::evaluation_of(node.cost)
+    {
+        return;
     }
     add_node(tree, edges, node);
 }
@@ -46,7 +41,7 @@ fn add_node(tree: &mut [u32], edges: usize, node: Node)
     ensures { Adds edges tree.old tree.new (node_of node) }
 {
     let number = tree[layout::NODES];
-    put_node(tree, wide(number), node);
+    put_node(tree, number as usize, node);
     tree[layout::NODES] = number + 1;
     queue::push(tree, layout::queue_at(edges), number);
 }
@@ -64,7 +59,7 @@ pub fn put_node(tree: &mut [u32], number: usize, node: Node)
 }
 
 // Takes the first ticket from the queue; the length that the queue then has is handed back, for `set_queued`.
-pub fn pop(tree: &mut [u32], edges: usize) -> Popped
+pub fn pop(tree: &mut [u32], edges: usize) -> Option<(u32, u32)>
     requires { Formed edges tree.old }
     ensures { PopIs edges tree.old tree.new result }
 {

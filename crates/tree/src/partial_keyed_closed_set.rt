@@ -5,15 +5,7 @@ ghost use Rattle.layout.specs.Layout.{used_in, closed_word_in, NodeFits};
 ghost use Rattle.layout.specs.Read.{read_cache};
 ghost use Rattle.tree.specs.Tree.{Formed, HasVertex, HasGoals, HasSolution, status_of, CanClose, CloseIs, ClosedCountIs, SolutionCostIs, CheapestIs, Considers};
 
-use layout::wide;
-use model::Solution;
-
-#[derive(Clone, Copy)]
-pub enum ClosedStatus {
-    Open,
-    Closed(u32),
-}
-
+// The Rust's, whose `Rejected` hands out the value and the prior one: here they are words of the tree.
 #[derive(Clone, Copy)]
 pub enum CloseResult {
     Accepted,
@@ -34,15 +26,15 @@ pub fn close(tree: &mut [u32], edges: usize, vertex: usize, node: u32) -> CloseR
 }
 
 // The node that closed a vertex, if one did.
-pub fn status(tree: &[u32], edges: usize, vertex: usize) -> ClosedStatus
+pub fn status(tree: &[u32], edges: usize, vertex: usize) -> Option<u32>
     requires { Formed edges tree.now × HasVertex edges tree.now vertex }
     ensures { result ≡ status_of (closed_word_in edges tree.now vertex) }
 {
     let word = tree[layout::closed_at(edges) + vertex];
     if word == 0 {
-        return ClosedStatus::Open;
+        return None;
     }
-    ClosedStatus::Closed(word - 1)
+    Some(word - 1)
 }
 
 // How many vertices are closed, counted from the closed words: those that are not open. The count is a word and counts the words
@@ -51,28 +43,24 @@ pub fn closed_keys_len(tree: &[u32], edges: usize) -> u32
     requires { Formed edges tree.now }
     ensures { ClosedCountIs edges tree.now result }
 {
-    let start = layout::closed_at(edges);
+    let closed = &tree[layout::closed_at(edges)..];
     let mut unclosed: u32 = 0;
-    let mut place = start;
-    while place < tree.len() {
-        if tree[place] == 0 {
+    for word in closed {
+        if *word == 0 {
             unclosed += 1;
         }
-        place += 1;
     }
-    (tree.len() - start) as u32 - unclosed
+    closed.len() as u32 - unclosed
 }
 
 // The cheapest closed goal, the first in the list on ties, as the node that closed it. `words` are those of the tree's cache.
-pub fn cheapest_goal(words: &[u32], tree: &[u32], edges: usize, goals: &[u32]) -> Solution
+pub fn cheapest_goal(words: &[u32], tree: &[u32], edges: usize, goals: &[u32]) -> Option<u32>
     requires { Formed edges tree.now × HasGoals edges tree.now goals.now }
     ensures { CheapestIs (read_cache words.now).domain words.now edges tree.now goals.now result }
 {
-    let mut best = Solution::Unsolved;
-    let mut i = 0;
-    while i < goals.len() {
-        best = cheaper_goal(words, tree, edges, best, wide(goals[i]));
-        i += 1;
+    let mut best = None;
+    for goal in goals {
+        best = cheaper_goal(words, tree, edges, best, *goal as usize);
     }
     best
 }
@@ -82,23 +70,21 @@ fn cheaper_goal(
     words: &[u32],
     tree: &[u32],
     edges: usize,
-    best: Solution,
+    best: Option<u32>,
     vertex: usize,
-) -> Solution
+) -> Option<u32>
     requires { Formed edges tree.now × (HasVertex edges tree.now vertex × HasSolution tree.now best) }
     ensures { Considers (read_cache words.now).domain words.now edges tree.now best vertex result }
 {
-    match status(tree, edges, vertex) {
-        ClosedStatus::Open => best,
-        ClosedStatus::Closed(node) => match best {
-            Solution::Unsolved => Solution::At(node),
-            Solution::At(held) => {
-                if solution_cost(words, tree, node) < solution_cost(words, tree, held) {
-                    return Solution::At(node);
-                }
-                best
-            }
-        },
+    let Some(node) = status(tree, edges, vertex) else {
+        return best;
+    };
+    match best {
+        None => Some(node),
+        Some(held) if solution_cost(words, tree, node) < solution_cost(words, tree, held) => {
+            Some(node)
+        }
+        Some(_) => best,
     }
 }
 

@@ -1,15 +1,15 @@
 -- `step` on sound words, refused, finished, and over the entries.
 -- Assumes nothing.
 use mathlib.Core.Path.{◌≡◌, refl, sym, ap, ◌∙◌, subst}
+use Rattle.model.specs.declared.SearchStatus.{SearchStatus}
+use Rattle.std.specs.declared.result.Result.{Result}
+use Rattle.model.specs.declared.Refusal.{Refusal}
+use Rattle.std.specs.declared.option.Option.{Option}
+use Rattle.std.specs.Prelude.{None, Some, Ok}
 use mathlib.Core.Bool.{Bool, true, false, not, true≢false}
 use mathlib.Core.List.{List}
-use mathlib.Core.Option.{none}
 use Prim.Native.Nat.{ℕ}
-use Rattle.model.specs.declared.Solution.{Solution}
-use Rattle.model.specs.declared.Solution.TheVariants.{Unsolved, At}
 use Rattle.model.specs.declared.SearchStatus.TheVariants.{Incomplete}
-use Rattle.model.specs.declared.StepAnswer.{StepAnswer}
-use Rattle.model.specs.declared.StepAnswer.TheVariants as stepping
 use Rattle.model.specs.declared.Search.{Search}
 use Rattle.model.specs.Answers.{Reply, answered, refused, Status, waiting, solved, no_path, step_reply}
 use Rattle.model.specs.Valid.{valid}
@@ -37,7 +37,7 @@ module _ (c : Cache) (s : Search) where
 
   pub not_valid : valid c.domain c.trees s ≡ false → (step c s).reply ≡ refused 8 0
   unfolding step
-  not_valid e = ap (λ (v : Bool). (step_by (or_else (not v) 8 none) c s).reply) e
+  not_valid e = ap (λ (v : Bool). (step_by (or_else (not v) 8 None) c s).reply) e
 
   module _ (fine : valid c.domain c.trees s ≡ true) where
     goes : {x : Bool} → s.exhausted ≡ x → step c s ≡ step_if x c s
@@ -51,9 +51,9 @@ module _ (c : Cache) (s : Search) where
 
   -- ---- and back: one that waits is valid and not finished
 
-  never-waits : (o : Solution) (t : Tree) → is_waiting (answered (status_at t o)) ≡ false
-  never-waits Unsolved t = refl
-  never-waits (At n) t = refl
+  never-waits : (o : Option ℕ) (t : Tree) → is_waiting (answered (status_at t o)) ≡ false
+  never-waits None t = refl
+  never-waits (Some n) t = refl
 
   pub final-answers : is_waiting (answered (final_status c.trees s)) ≡ false
   unfolding final_status
@@ -78,7 +78,7 @@ module _ (ws : List ℕ) (s : Search) where
   c' = read_cache ws
 
   -- a step that does not wait leaves words and record
-  pub rests : SoundWords ws → (a : StepAnswer) → step_reply a ≡ (step c' s).reply → is_waiting (step_reply a) ≡ false
+  pub rests : SoundWords ws → (a : Result SearchStatus Refusal) → step_reply a ≡ (step c' s).reply → is_waiting (step_reply a) ≡ false
       → Advances ws s (record { answer = a; tickets = 0; search = s }) ws
   rests ok a e w =
       let r = step-rests c' s (ap is_waiting (sym e) ∙ w) in
@@ -93,7 +93,7 @@ module _ (ws : List ℕ) (s : Search) where
 
   -- one of a valid record that is not finished is the walk over its entries
   pub walked : valid c'.domain c'.trees s ≡ true → s.exhausted ≡ false → {t : Turned} {left : List ℕ} → Steps ws s t left
-      → Advances ws s (record { answer = stepping.Status Incomplete; tickets = t.tickets; search = t.search }) left
+      → Advances ws s (record { answer = Ok Incomplete; tickets = t.tickets; search = t.search }) left
   walked fine unfinished {t} {left} h =
       let is = goes c' s fine unfinished in
       record {

@@ -1,24 +1,22 @@
 -- A search that was just opened on sound words: its record is its own, and few tickets are left in its trees.
 -- Assumes nothing.
 use mathlib.Core.Path.{◌≡◌, refl, sym, ap, ◌∙◌, subst}
+use Rattle.std.specs.declared.result.Result.{Result}
+use Rattle.std.specs.declared.option.Option.{Option}
+use Rattle.std.specs.Prelude.{None, Err, Ok}
 use mathlib.Core.Bool.{Bool, true, false, not, ◌||◌}
 use mathlib.Core.List.{List, [], ◌∷◌}
-use mathlib.Core.Option.{Option, none}
 use Prim.Native.Nat.{ℕ, suc, ◌+◌, ◌*◌, ◌≤◌}
 use native.Mathlib.Nat.{mul-le-mul_left, mul-le-mul_right}
 use native.Mathlib.Omega.{arith}
 use lib.ListN.{length}
-use Rattle.model.specs.declared.InitializeAnswer.{InitializeAnswer}
-use Rattle.model.specs.declared.InitializeAnswer.TheVariants as initializing
 use Rattle.model.specs.declared.Refusal.{Refusal}
 use Rattle.model.specs.declared.Search.{Search}
-use Rattle.model.specs.declared.SearchOpened.{SearchOpened}
-use Rattle.model.specs.declared.StepAnswer.TheVariants as stepping
 use Rattle.model.specs.Lists.{keep, mem}
 use Rattle.model.specs.Answers.{answered, initialize_reply}
 use Rattle.model.specs.Graph.{Accepted, Direction, forward, backward, edge_count}
 use Rattle.model.specs.Tree.{Tree}
-use Rattle.model.specs.Search.{roots_of, goals_of}
+use Rattle.model.specs.Search.{roots_of, goals_of, empty_search}
 use Rattle.model.specs.Calls.{Cache, AfterInitialize, planted_for, initialize_by, initialize}
 use Rattle.model.specs.Demands.{distinct}
 use Rattle.model.proofs.Faults.{MayInitialize, may-initialize, no-fault}
@@ -29,7 +27,6 @@ use Rattle.layout.specs.Read.{read_cache}
 use Rattle.sound.specs.Facts.{SoundWords}
 use Rattle.sound.proofs.Facts.{sound-accepted, sound-cache}
 use Rattle.opening.specs.Initialize.{Initializes}
-use Rattle.memory.specs.declared.Shown.TheVariants as shown
 use Rattle.unchecked.specs.declared.SearchRun.{SearchRun}
 use Rattle.unchecked.specs.Run.{ticket_limit, RunsToEnd, RunsAfter, Runs, JustOpened}
 
@@ -75,21 +72,21 @@ module _ (c : Cache) (ss gs : List ℕ) (m : MayInitialize c ss gs) where
       let b : length mine * 2049 ≤ 64 * 2049 = mul-le-mul_right 2049 slots-few in
       omega (arith, most)
 
-module _ {ws ss gs : List ℕ} (ok : SoundWords ws) {r : SearchOpened} {mid : List ℕ} (h : Initializes ws ss gs r mid) (e : r.answer ≡ initializing.Initialized) where
+module _ {ws ss gs : List ℕ} (ok : SoundWords ws) {s : Search} {mid : List ℕ} (h : Initializes ws ss gs (Ok s) mid) where
   abbrev c' : Cache
   c' = read_cache ws
 
   reply : (initialize c' ss gs).reply ≡ answered tt
-  reply = sym h.answer ∙ ap initialize_reply e
+  reply = sym h.answer
 
   may : MayInitialize c' ss gs
   may = may-initialize c' ss gs (no-fault c' ss gs reply)
 
-  accepted : initialize c' ss gs ≡ initialize_by none c' ss gs
+  accepted : initialize c' ss gs ≡ initialize_by None c' ss gs
   unfolding initialize
   accepted = ap (λ (o : Option ℕ). initialize_by o c' ss gs) (no-fault c' ss gs reply)
 
-  opened-own : OwnSearch mid r.search
+  opened-own : OwnSearch mid s
   opened-own =
       let st = opened-state c' ss gs (sound-cache ws ok).trees may in
       let cache = h.cache ∙ ap (λ (x : AfterInitialize). x.cache) accepted in
@@ -100,29 +97,28 @@ module _ {ws ss gs : List ℕ} (ok : SoundWords ws) {r : SearchOpened} {mid : Li
         vs = vs c' ss gs may;
         gs = goals_of c'.domain.direction ss gs;
         mine = slots;
-        state = subst (λ (x : Cache). State x.domain (vs c' ss gs may) (goals_of c'.domain.direction ss gs) slots x.trees r.search) (sym cache)
+        state = subst (λ (x : Cache). State x.domain (vs c' ss gs may) (goals_of c'.domain.direction ss gs) slots x.trees s) (sym cache)
             (subst (State c'.domain (vs c' ss gs may) (goals_of c'.domain.direction ss gs) slots (us c' ss gs may)) (sym search) st);
         few = subst (λ (x : Cache). lefts x.domain x.trees slots ≤ ticket_limit) (sym cache) (lefts-few c' ss gs may (sound-accepted ws ok) st);
       }
 
 pub own-search : {ws : List ℕ} {s : Search} → JustOpened ws s → OwnSearch ws s
-own-search {ws} {s} j = subst (OwnSearch ws) j.search (opened-own j.sound j.opens j.accepted)
+own-search j = opened-own j.sound j.opens
 
 -- ---- by the answer of the opening
 
-module _ {ws ss gs : List ℕ} {r : SearchOpened} {mid : List ℕ} (h : Initializes ws ss gs r mid) where
-  pub not-run : {f : Refusal} {line : ℕ} → r.answer ≡ initializing.Refused f line
-      → Runs ws ss gs (record { answer = stepping.Refused f line; waits = 0; tickets = 0; shown = shown.Nothing; search = r.search }) mid
-  not-run {f} {line} e = record {
+module _ {ws ss gs : List ℕ} {r : Result Search Refusal} {mid : List ℕ} (h : Initializes ws ss gs r mid) where
+  pub not-run : {f : Refusal} → r ≡ Err f → Runs ws ss gs (record { answer = Err f; waits = 0; tickets = 0; shown = None; search = empty_search }) mid
+  not-run {f} e = record {
     opened = r;
     mid = mid;
     opens = h;
-    after = subst (λ (a : InitializeAnswer). RunsAfter a mid r.search (record { answer = stepping.Refused f line; waits = 0; tickets = 0; shown = shown.Nothing; search = r.search }) mid)
+    after = subst (λ (a : Result Search Refusal). RunsAfter a mid (record { answer = Err f; waits = 0; tickets = 0; shown = None; search = empty_search }) mid)
         (sym e) (refl, refl);
   }
 
-  pub just-opened : SoundWords ws → r.answer ≡ initializing.Initialized → JustOpened mid r.search
-  just-opened ok e = record { earlier = ws; ss = ss; gs = gs; opened = r; sound = ok; opens = h; accepted = e; search = refl }
+  pub just-opened : SoundWords ws → {s : Search} → r ≡ Ok s → JustOpened mid s
+  just-opened ok e = record { earlier = ws; ss = ss; gs = gs; sound = ok; opens = subst (λ (a : Result Search Refusal). Initializes ws ss gs a mid) e h }
 
-  pub is-run : r.answer ≡ initializing.Initialized → {x : SearchRun} {left : List ℕ} → RunsToEnd mid r.search x left → Runs ws ss gs x left
-  is-run e {x} {left} k = record { opened = r; mid = mid; opens = h; after = subst (λ (a : InitializeAnswer). RunsAfter a mid r.search x left) (sym e) k }
+  pub is-run : {s : Search} → r ≡ Ok s → {x : SearchRun} {left : List ℕ} → RunsToEnd mid s x left → Runs ws ss gs x left
+  is-run e {x} {left} k = record { opened = r; mid = mid; opens = h; after = subst (λ (a : Result Search Refusal). RunsAfter a mid x left) (sym e) k }

@@ -1,6 +1,11 @@
 -- The path to a node of the tree in a slot, written from the part of the slot's words.
 -- Assumes nothing.
 use mathlib.Core.Path.{◌≡◌, refl, sym, ap, ap₂, ◌∙◌}
+use Rattle.memory.specs.Standing.{shown_node}
+use Rattle.std.specs.declared.option.Option.{Option}
+use Rattle.std.specs.declared.result.Result.{Result}
+use Rattle.model.specs.declared.Refusal.{Refusal}
+use Rattle.std.specs.Prelude.{Err, Ok, None}
 use mathlib.Core.Bool.{Bool, true, false}
 use mathlib.Core.List.{List, [], ◌∷◌}
 use Prim.Native.Nat.{ℕ, zero, suc, ◌+◌, ◌*◌, ◌<◌, ◌≤◌}
@@ -9,8 +14,6 @@ use lib.Dec.{eqb}
 use lib.ListN.{length, length-append}
 use borrow.Author.Tests.{lt-ltb, le-ltb}
 use Rattle.model.specs.declared.Refusal.TheVariants.{NotSolved, ShortPath}
-use Rattle.model.specs.declared.RetraceAnswer.{RetraceAnswer}
-use Rattle.model.specs.declared.RetraceAnswer.TheVariants.{Moves, Refused}
 use Rattle.model.specs.Tree.{Node, node}
 use Rattle.model.specs.Sound.{tree}
 use Rattle.model.specs.Answers.{answered}
@@ -22,7 +25,6 @@ use Rattle.sound.proofs.InUse.{words-formed, words-used}
 use Rattle.paths.specs.Path.{CanBacktrack, Backtracks}
 use Rattle.unchecked.proofs.Nodes.{nodes-are, is-hung}
 use Rattle.memory.specs.declared.Shown.{Shown}
-use Rattle.memory.specs.declared.Shown.TheVariants as shown
 use Rattle.unchecked.specs.Retrace.{retrace_node_if, RetracesNode, retrace_shown, RetracesShown}
 use Rattle.layout.specs.Layout.{direction_in, edges_in, vertices_in}
 use Rattle.layout.specs.Slots.{slot_words}
@@ -59,7 +61,7 @@ module _ {ws : List ℕ} {i n : ℕ} (u : HasNode ws i n) where
       room = omega (arith, room, count, ap₂ (λ (x : List Node) (y : ℕ). moves_of x y) (nodes-are u e is) is);
     }
 
-    pub path-written : (r : ℕ) (q : List ℕ) → Backtracks ws t (direction_in ws) w p r q → RetracesNode ws i n p (Moves k) q
+    pub path-written : (r : ℕ) (q : List ℕ) → Backtracks ws t (direction_in ws) w p r q → RetracesNode ws i n p (Ok k) q
     path-written r q h =
         let fits : 1 + 2 * moves_of ns n ≤ length p = omega (arith, room, count) in
         ap₂ (λ (m : ℕ) (x : List ℕ). given m x) count
@@ -69,17 +71,17 @@ module _ {ws : List ℕ} {i n : ℕ} (u : HasNode ws i n) where
         given : ℕ → List ℕ → AfterRetrace
         given m x = record { reply = answered m; path = x }
 
-  pub path-short : {k : ℕ} → k ≡ moves_of ns n → (p : List ℕ) → length p < 1 + 2 * k → {r : RetraceAnswer} → r ≡ Refused ShortPath 0
+  pub path-short : {k : ℕ} → k ≡ moves_of ns n → (p : List ℕ) → length p < 1 + 2 * k → {r : Result ℕ Refusal} → r ≡ Err ShortPath
       → RetracesNode ws i n p r p
   path-short count p short e =
       let small : length p < 1 + 2 * moves_of ns n = omega (arith, short, count) in
-      ap (λ (x : RetraceAnswer). after_retrace x p) e ∙ sym (ap (λ (b : Bool). retrace_node_if b ws i n p) (lt-ltb _ _ small))
+      ap (λ (x : Result ℕ Refusal). after_retrace x p) e ∙ sym (ap (λ (b : Bool). retrace_node_if b ws i n p) (lt-ltb _ _ small))
 
 -- ---- the node shown, by the code's cases
 
-module _ (ws p : List ℕ) {x : Shown} where
-  pub nothing-retraced : x ≡ shown.Nothing → {r : RetraceAnswer} → r ≡ Refused NotSolved 0 → RetracesShown ws x p r p
-  nothing-retraced e z = ap (λ (y : RetraceAnswer). after_retrace y p) z ∙ sym (ap (λ (y : Shown). retrace_shown ws y p) e)
+module _ (ws p : List ℕ) {x : Option Shown} where
+  pub nothing-retraced : x ≡ None → {r : Result ℕ Refusal} → r ≡ Err NotSolved → RetracesShown ws x p r p
+  nothing-retraced e z = ap (λ (y : Result ℕ Refusal). after_retrace y p) z ∙ sym (ap (λ (y : Option Shown). retrace_shown ws y p) e)
 
-  pub node-retraced : {i n : ℕ} → x ≡ shown.Node i n → (r : RetraceAnswer) (q : List ℕ) → RetracesNode ws i n p r q → RetracesShown ws x p r q
-  node-retraced e r q h = h ∙ sym (ap (λ (y : Shown). retrace_shown ws y p) e)
+  pub node-retraced : {i n : ℕ} → x ≡ shown_node i n → (r : Result ℕ Refusal) (q : List ℕ) → RetracesNode ws i n p r q → RetracesShown ws x p r q
+  node-retraced e r q h = h ∙ sym (ap (λ (y : Option Shown). retrace_shown ws y p) e)

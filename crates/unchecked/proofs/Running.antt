@@ -1,6 +1,8 @@
 -- The loop of `run_opened`: the steps so far all waited, the record is the search's own, and the tickets left in its trees grow fewer.
 -- Assumes nothing.
 use mathlib.Core.Path.{◌≡◌, refl, sym, ap, ◌∙◌, subst}
+use Rattle.std.specs.declared.option.Option.{Option}
+use Rattle.std.specs.Prelude.{Ok, None, Some}
 use mathlib.Core.Bool.{true, false}
 use mathlib.Core.List.{List, Memᴰ}
 use Prim.Native.Nat.{ℕ, ◌+◌, ◌≤◌}
@@ -8,7 +10,6 @@ use native.Mathlib.Omega.{arith}
 use lib.ListN.{length}
 use Rattle.model.specs.declared.SearchStatus.{SearchStatus}
 use Rattle.model.specs.declared.SearchStatus.TheVariants.{Incomplete}
-use Rattle.model.specs.declared.StepAnswer.TheVariants as stepping
 use Rattle.model.specs.declared.Search.{Search}
 use Rattle.model.specs.declared.Stepped.{Stepped}
 use Rattle.model.specs.Answers.{answered, status, step_reply}
@@ -26,7 +27,6 @@ use Rattle.memory.proofs.Fits.{valid-fits}
 use Rattle.entry_turns.specs.declared.Turned.{Turned}
 use Rattle.entry_turns.specs.Turn.{CanStep, Steps}
 use Rattle.memory.specs.declared.Shown.{Shown}
-use Rattle.memory.specs.declared.Shown.TheVariants as shown
 use Rattle.unchecked.specs.Step.{Advances}
 use Rattle.unchecked.specs.Solve.{Solves}
 use Rattle.model.specs.Steps.{Waited, at_first, once_more}
@@ -88,7 +88,7 @@ module _ {ws : List ℕ} {s : Search} {words : List ℕ} {next : Search} {w t : 
 
   module _ (unfinished : next.exhausted ≡ false) {r : Turned} {left : List ℕ} (p : Steps words next r left) where
     abbrev stepped : Stepped
-    stepped = record { answer = stepping.Status Incomplete; tickets = r.tickets; search = r.search }
+    stepped = record { answer = Ok Incomplete; tickets = r.tickets; search = r.search }
 
     pub running-advances : Advances words next stepped left
     running-advances = walked words next fine unfinished p
@@ -113,30 +113,30 @@ module _ {ws : List ℕ} {s : Search} {words : List ℕ} {next : Search} {w t : 
 
   -- ---- the end
 
-  module _ (done : next.exhausted ≡ true) {x : Shown} (is : x ≡ shown_in next) where
+  module _ (done : next.exhausted ≡ true) {x : Option Shown} (is : x ≡ shown_in next) where
     pub running-shows : Shows words x
     running-shows = rw is (shows running-can)
 
     module _ (a : SearchStatus) (e : status a ≡ status_of c.trees x) where
-      stands : step_reply (stepping.Status a) ≡ (step c next).reply
+      stands : step_reply (Ok a) ≡ (step c next).reply
       stands = ap answered (e ∙ ap (status_of c.trees) is ∙ status-is c.trees next) ∙ sym (finished c next fine done)
 
-      answers : (y : Shown) → is_waiting (answered (status_of c.trees y)) ≡ false
-      answers shown.Nothing = refl
-      answers (shown.Node i n) = refl
+      answers : (y : Option Shown) → is_waiting (answered (status_of c.trees y)) ≡ false
+      answers None = refl
+      answers (Some x) = refl
 
-      last : is_waiting (step_reply (stepping.Status a)) ≡ false
+      last : is_waiting (step_reply (Ok a)) ≡ false
       last = ap (λ z. is_waiting (answered z)) e ∙ answers x
 
-      solves : Solves ws s max_steps (record { answer = stepping.Status a; waits = w; tickets = t; search = next }) words
-      solves = ends-here ws s g.from.sound g.within g.waited (stepping.Status a) stands last (sym (told-answered w (status a)))
+      solves : Solves ws s max_steps (record { answer = Ok a; waits = w; tickets = t; search = next }) words
+      solves = ends-here ws s g.from.sound g.within g.waited (Ok a) stands last (sym (told-answered w (status a)))
 
-      pub running-ends : RunsToEnd ws s (record { answer = stepping.Status a; waits = w; tickets = t; shown = x; search = next }) words
+      pub running-ends : RunsToEnd ws s (record { answer = Ok a; waits = w; tickets = t; shown = x; search = next }) words
       running-ends = record {
         solves = solves;
         waits = g.within;
         tickets = waited-few g.waited;
         shows = running-shows;
         answers = ap answered e;
-        retraces = λ p. shown-retraced words next p fine done ∙ ap (λ (y : Shown). retrace_shown words y p) (sym is);
+        retraces = λ p. shown-retraced words next p fine done ∙ ap (λ (y : Option Shown). retrace_shown words y p) (sym is);
       }

@@ -1,11 +1,13 @@
 -- So many steps on sound words meet the promise of `solve` there.
 -- Assumes nothing.
 use mathlib.Core.Path.{◌≡◌, refl, sym, ap, ap₂, ◌∙◌, subst}
+use Rattle.model.specs.declared.SearchStatus.{SearchStatus}
+use Rattle.std.specs.declared.result.Result.{Result}
+use Rattle.model.specs.declared.Refusal.{Refusal}
 use mathlib.Core.Bool.{Bool, true, false}
 use mathlib.Core.List.{List}
 use Prim.Native.Nat.{ℕ, zero, suc, ◌+◌, ◌-◌, ◌≤◌}
 use native.Mathlib.Omega.{arith}
-use Rattle.model.specs.declared.StepAnswer.{StepAnswer}
 use Rattle.model.specs.declared.Search.{Search}
 use Rattle.model.specs.declared.StepsTaken.{StepsTaken}
 use Rattle.model.specs.Answers.{Reply, Status, step_reply}
@@ -72,7 +74,7 @@ module _ (ws : List ℕ) (s : Search) (ok : SoundWords ws) where
 
   -- w steps waited, and the next one answers a, which is told as b
   pub ends-here : {n w t : ℕ} {words : List ℕ} {next : Search} → w ≤ n - 1 → Waited Advances ws s w t words next
-      → (a : StepAnswer) → step_reply a ≡ (step (read_cache words) next).reply → is_waiting (step_reply a) ≡ false → {b : StepAnswer} → step_reply b ≡ last_reply w (step_reply a)
+      → (a : Result SearchStatus Refusal) → step_reply a ≡ (step (read_cache words) next).reply → is_waiting (step_reply a) ≡ false → {b : Result SearchStatus Refusal} → step_reply b ≡ last_reply w (step_reply a)
       → Solves ws s n (record { answer = b; waits = w; tickets = t; search = next }) words
   ends-here {n} {w} {t} {words} {next} within v a stands e {b} told =
       let none : t + 0 ≡ t = omega arith in

@@ -1,6 +1,11 @@
 -- The loop of `solve`: the steps so far all waited, and the record passes all but the last test of refusal 8.
 -- Assumes nothing.
 use mathlib.Core.Path.{◌≡◌, refl, sym, ap, ◌∙◌, subst}
+use Rattle.model.specs.declared.SearchStatus.{SearchStatus}
+use Rattle.std.specs.declared.result.Result.{Result}
+use Rattle.model.specs.declared.Refusal.{Refusal}
+use Rattle.std.specs.Prelude.{Err, Ok}
+use Rattle.std.specs.declared.option.Option.{Option}
 use mathlib.Core.Logic.{◌⊎◌, inl, inr}
 use mathlib.Core.Bool.{Bool, true, false, not, ◌||◌, true≢false}
 use mathlib.Core.List.{List}
@@ -9,10 +14,7 @@ use native.Mathlib.Omega.{arith}
 use lib.ListN.{length}
 use Rattle.model.specs.declared.Refusal.TheVariants.{InvalidSearch}
 use Rattle.model.specs.declared.SearchStatus.TheVariants.{Incomplete}
-use Rattle.model.specs.declared.StepAnswer.{StepAnswer}
-use Rattle.model.specs.declared.StepAnswer.TheVariants as stepping
 use Rattle.model.specs.declared.BestSolution.{BestSolution}
-use Rattle.model.specs.declared.Solution.{Solution}
 use Rattle.model.specs.declared.Search.{Search}
 use Rattle.model.specs.Answers.{Reply, answered, Status, waiting, step_reply}
 use Rattle.model.specs.Search.{entry, walk}
@@ -55,16 +57,16 @@ module _ (c : Cache) (s : Search) (fine : almost c.domain c.trees s ≡ true) (d
   held : valid c.domain c.trees s ≡ best_held s s.best_solution
   held = almost-valid c.domain c.trees s fine ∙ ap (λ (x : Bool). not x || best_held s s.best_solution) done
 
-  by : {b : BestSolution} → s.best_solution ≡ b → told ≡ last_answer c.trees b (entry s (best_entry b))
-  by e = ap (λ (b : BestSolution). last_answer c.trees b (entry s (best_entry b))) e
+  by : {b : Option BestSolution} → s.best_solution ≡ b → told ≡ last_answer c.trees b (entry s (best_entry b))
+  by e = ap (λ (b : Option BestSolution). last_answer c.trees b (entry s (best_entry b))) e
 
-  at : (i : ℕ) {o : Solution} → (entry s i).solution ≡ o
+  at : (i : ℕ) {o : Option ℕ} → (entry s i).solution ≡ o
       → answered (last_status c.trees (shown_at (entry s i) (entry s i).solution)) ≡ answered (last_status c.trees (shown_at (entry s i) o))
-  at i e = ap (λ (o : Solution). answered (last_status c.trees (shown_at (entry s i) o))) e
+  at i e = ap (λ (o : Option ℕ). answered (last_status c.trees (shown_at (entry s i) o))) e
 
   told-cases : Told (final_status c.trees s) ⊎ Refused
   told-cases = subst (λ (x : Status). Told x ⊎ Refused) (status-is c.trees s)
-      (shown-cases s (λ (x : Shown). Told (status_of c.trees x) ⊎ Refused)
+      (shown-cases s (λ (x : Option Shown). Told (status_of c.trees x) ⊎ Refused)
       (λ b. inl (record { passes = held ∙ ap (best_held s) b; is = by b }))
       (λ i n b e. inr (record { fails = held ∙ ap (best_held s) b ∙ ap is_held e; is = by b ∙ at i e }))
       (λ i n h b e. inl (record { passes = held ∙ ap (best_held s) b ∙ ap is_held e; is = by b ∙ at i e })))
@@ -79,7 +81,7 @@ pub record Underway (ws : List ℕ) (s : Search) (n : ℕ) (words : List ℕ) (n
   pub fine : almost (read_cache words).domain (read_cache words).trees next ≡ true
   pub within : w ≤ n
 
-pub going-first : {ws : List ℕ} {s : Search} {n : ℕ} → SoundWords ws → (a : StepAnswer) → step_reply a ≡ (step (read_cache ws) s).reply → is_waiting (step_reply a) ≡ true
+pub going-first : {ws : List ℕ} {s : Search} {n : ℕ} → SoundWords ws → (a : Result SearchStatus Refusal) → step_reply a ≡ (step (read_cache ws) s).reply → is_waiting (step_reply a) ≡ true
     → Underway ws s n ws s 0 0
 going-first {ws} {s} ok a stands e =
     let first = ap is_waiting (sym stands) ∙ e in
@@ -98,7 +100,7 @@ module _ {ws : List ℕ} {s : Search} {n : ℕ} {words : List ℕ} {next : Searc
   pub going-can : CanStep words next
   going-can = record { sound = stays.sound; fits = almost-fits words next stays.sound g.fine }
 
-  pub going-ends : n ≤ w → Solves ws s n (record { answer = stepping.Status Incomplete; waits = w; tickets = t; search = next }) words
+  pub going-ends : n ≤ w → Solves ws s n (record { answer = Ok Incomplete; waits = n; tickets = t; search = next }) words
   going-ends h =
       let e : n ≡ w = omega (arith, h, g.within) in
       let all = made-solves ws s g.ok (all_wait g.waited (λ _. g.first)) in
@@ -109,7 +111,7 @@ module _ {ws : List ℕ} {s : Search} {n : ℕ} {words : List ℕ} {next : Searc
     passes : valid c.domain c.trees next ≡ true
     passes = almost-valid c.domain c.trees next g.fine ∙ ap (λ (x : Bool). not x || best_held next next.best_solution) unfinished
 
-    pub going-advances : Advances words next (record { answer = stepping.Status Incomplete; tickets = r.tickets; search = r.search }) left
+    pub going-advances : Advances words next (record { answer = Ok Incomplete; tickets = r.tickets; search = r.search }) left
     going-advances = walked words next passes unfinished p
 
     fine-left : almost (read_cache left).domain (read_cache left).trees r.search ≡ true
@@ -122,7 +124,7 @@ module _ {ws : List ℕ} {s : Search} {n : ℕ} {words : List ℕ} {next : Searc
     going_more h = record {
       ok = g.ok;
       first = g.first;
-      waited = once_more (record { answer = stepping.Status Incomplete; tickets = r.tickets; search = r.search }) g.waited going-advances refl;
+      waited = once_more (record { answer = Ok Incomplete; tickets = r.tickets; search = r.search }) g.waited going-advances refl;
       fine = fine-left;
       within = omega arith;
     }
@@ -137,7 +139,7 @@ module _ {ws : List ℕ} {s : Search} {n : ℕ} {words : List ℕ} {next : Searc
     some : w ≡ 0 → ⊥
     some none = true≢false (sym done ∙ ap (λ (x : Search). x.exhausted) (unmoved g.waited none).search ∙ waits-unfinished (read_cache ws) s g.first)
 
-    pub going-answers : w < n → {b : StepAnswer} → step_reply b ≡ last_answer c.trees next.best_solution (entry next j)
+    pub going-answers : w < n → {b : Result SearchStatus Refusal} → step_reply b ≡ last_answer c.trees next.best_solution (entry next j)
         → Solves ws s n (record { answer = b; waits = w; tickets = t; search = next }) words
     going-answers h {b} e = go (told-cases c next g.fine done)
       where
@@ -153,5 +155,5 @@ module _ {ws : List ℕ} {s : Search} {n : ℕ} {words : List ℕ} {next : Searc
             ends-here ws s g.ok (omega arith) g.waited b (is ∙ sym (finished c next x.passes done)) (ap is_waiting is ∙ final-answers c next)
             (is ∙ sym (ap (last_reply w) is ∙ told-answered w final))
         go (inr x) =
-            ends-here ws s g.ok (omega arith) g.waited (stepping.Refused InvalidSearch 0) (sym (not_valid c next x.fails)) refl
+            ends-here ws s g.ok (omega arith) g.waited (Err InvalidSearch) (sym (not_valid c next x.fails)) refl
             (says ∙ x.is ∙ sym (told-refused w 8 0 some))

@@ -1,19 +1,17 @@
 -- A whole search on sound words, opened and stepped to its end: what the code promises.
 -- Assumes nothing.
-use Rattle.std.specs.Prelude.{◌≡◌, List, ℕ, ◌+◌, ◌*◌, ◌≤◌}
+use Rattle.std.specs.Prelude.{◌≡◌, List, ℕ, ◌+◌, ◌*◌, ◌≤◌, Err, Ok, None}
+use Rattle.std.specs.declared.result.Result.{Result}
+use Rattle.model.specs.declared.Refusal.{Refusal}
 use Rattle.model.specs.Limits.{edge_limit, list_limit}
-use Rattle.model.specs.declared.InitializeAnswer.{InitializeAnswer}
-use Rattle.model.specs.declared.InitializeAnswer.TheVariants as initializing
-use Rattle.model.specs.declared.StepAnswer.TheVariants as stepping
 use Rattle.model.specs.declared.Search.{Search}
-use Rattle.model.specs.declared.SearchOpened.{SearchOpened}
 use Rattle.model.specs.declared.StepsTaken.{StepsTaken}
 use Rattle.model.specs.Answers.{answered, step_reply}
+use Rattle.model.specs.Search.{empty_search}
 use Rattle.model.specs.Calls.{retrace}
 use Rattle.model.specs.Solve.{max_steps}
 use Rattle.layout.specs.Read.{read_cache}
 use Rattle.sound.specs.Facts.{SoundWords}
-use Rattle.memory.specs.declared.Shown.TheVariants as shown
 use Rattle.unchecked.specs.declared.SearchRun.{SearchRun}
 use Rattle.opening.specs.Initialize.{Initializes}
 use Rattle.unchecked.specs.Solve.{Solves}
@@ -39,24 +37,21 @@ pub record RunsToEnd (ws : List ℕ) (s : Search) (r : SearchRun) (left : List �
   pub retraces : (p : List ℕ) → retrace (read_cache left) r.search p ≡ retrace_shown left r.shown p
 
 -- after an opening: one that is refused ends the search
-abbrev pub RunsAfter : InitializeAnswer → List ℕ → Search → SearchRun → List ℕ → Type 0
-RunsAfter (initializing.Refused f line) mid s r left =
-    (r ≡ record { answer = stepping.Refused f line; waits = 0; tickets = 0; shown = shown.Nothing; search = s }) × (left ≡ mid)
-RunsAfter initializing.Initialized mid s r left = RunsToEnd mid s r left
+abbrev pub RunsAfter : Result Search Refusal → List ℕ → SearchRun → List ℕ → Type 0
+RunsAfter (Err f) mid r left =
+    (r ≡ record { answer = Err f; waits = 0; tickets = 0; shown = None; search = empty_search }) × (left ≡ mid)
+RunsAfter (Ok s) mid r left = RunsToEnd mid s r left
 
 pub record Runs (ws ss gs : List ℕ) (r : SearchRun) (left : List ℕ) : Type 0 where
-  pub opened : SearchOpened
+  pub opened : Result Search Refusal
   pub mid : List ℕ
   pub opens : Initializes ws ss gs opened mid
-  pub after : RunsAfter opened.answer mid opened.search r left
+  pub after : RunsAfter opened mid r left
 
 -- ---- what the function beneath asks for: an opening made the record and left the words
 pub record JustOpened (ws : List ℕ) (s : Search) : Type 0 where
   pub earlier : List ℕ
   pub ss : List ℕ
   pub gs : List ℕ
-  pub opened : SearchOpened
   pub sound : SoundWords earlier
-  pub opens : Initializes earlier ss gs opened ws
-  pub accepted : opened.answer ≡ initializing.Initialized
-  pub search : opened.search ≡ s
+  pub opens : Initializes earlier ss gs (Ok s) ws

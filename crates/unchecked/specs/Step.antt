@@ -1,8 +1,7 @@
 -- A step on sound words: what the code promises. It is the model's step (model/specs/Calls.antt) on the cache that the words hold.
 -- Assumes nothing.
-use Rattle.std.specs.Prelude.{◌≡◌, List, ℕ}
+use Rattle.std.specs.Prelude.{◌≡◌, List, ℕ, Err}
 use Rattle.model.specs.declared.Refusal.{Refusal}
-use Rattle.model.specs.declared.StepAnswer.TheVariants.{Refused}
 use Rattle.model.specs.declared.Search.{Search}
 use Rattle.model.specs.declared.Stepped.{Stepped}
 use Rattle.model.specs.Answers.{step_reply}
@@ -21,4 +20,4 @@ pub record Advances (ws : List ℕ) (s : Search) (r : Stepped) (left : List ℕ)
   pub words : Leaves (step (read_cache ws) s).reply ws s left
 
 abbrev pub not_stepped : Search → Refusal → Stepped
-not_stepped s f = record { answer = Refused f 0; tickets = 0; search = s }
+not_stepped s f = record { answer = Err f; tickets = 0; search = s }

@@ -7,7 +7,7 @@
 pub mod shown;
 
 ghost use Rattle.std.specs.Prelude.{◌≡◌};
-ghost use Rattle.model.specs.Answers.{step_reply};
+ghost use Rattle.model.specs.Answers.{answered, status, step_reply};
 ghost use Rattle.model.specs.Calls.{step as Model-step};
 ghost use Rattle.model.specs.Solve.{is_waiting};
 ghost use Rattle.layout.specs.Read.{read_cache};
@@ -20,12 +20,9 @@ ghost use Rattle.unchecked.specs.Retrace.{Retraces};
 
 use entry_turns::{best_entry, step_trees};
 use memory::{Shown, Standing, judge, shown_at};
-use model::{
-    BestSolution, InitializeAnswer, Refusal, RetraceAnswer, Search, SearchStatus, StepAnswer,
-    Stepped, StepsTaken, TreeMemory,
-};
+use model::{BestSolution, Refusal, Search, SearchStatus, Stepped, StepsTaken, TreeMemory};
 use opening::initialize;
-use shown::{not_retraced, retrace_shown, shown_of, status_of};
+use shown::{retrace_shown, shown_of, status_of};
 
 // One step of a search, which comes back changed beside the answer.
 pub fn step(words: &mut [u32], search: Search) -> Stepped
@@ -33,12 +30,10 @@ pub fn step(words: &mut [u32], search: Search) -> Stepped
     ensures { Advances words.old search result words.new }
 {
     let taken = solve(words, search, 1);
-    let answer = taken.answer;
-    let next = taken.search;
     Stepped {
-        answer,
+        answer: taken.answer,
         tickets: taken.tickets,
-        search: next,
+        search: taken.search,
     }
 }
 
@@ -60,13 +55,12 @@ pub fn solve(words: &mut [u32], search: Search, steps: u32) -> StepsTaken
     }
     let mut next = search;
     let mut tickets: usize = 0;
-    let mut waits: usize = 0;
-    while waits < steps as usize {
+    for waits in 0..steps as usize {
         if next.exhausted {
             let best = next.best_solution;
             let holder = next.trees[best_entry(best)];
             return StepsTaken {
-                answer: last_answer(words, best, holder),
+                answer: Ok(last_answer(words, best, holder)),
                 waits,
                 tickets,
                 search: next,
@@ -74,12 +68,11 @@ pub fn solve(words: &mut [u32], search: Search, steps: u32) -> StepsTaken
         }
         let turned = step_trees(words, next);
         tickets += turned.tickets;
-        waits += 1;
         next = turned.search;
     }
     StepsTaken {
-        answer: StepAnswer::Status(SearchStatus::Incomplete),
-        waits,
+        answer: Ok(SearchStatus::Incomplete),
+        waits: steps as usize,
         tickets,
         search: next,
     }
@@ -87,27 +80,26 @@ pub fn solve(words: &mut [u32], search: Search, steps: u32) -> StepsTaken
 
 // What is told of a search that some steps finished, by the entry that found the best. Where that entry holds nothing a step is refused,
 // which is told as waiting.
-fn last_answer(words: &[u32], best: BestSolution, holder: TreeMemory) -> StepAnswer
+fn last_answer(words: &[u32], best: Option<BestSolution>, holder: TreeMemory) -> SearchStatus
     requires { Shows words.now (shown_of best holder) }
-    ensures { step_reply result ≡ last_answer (read_cache words.now).trees best holder }
+    ensures { answered (status result) ≡ last_answer (read_cache words.now).trees best holder }
 {
-    let BestSolution::Best { entry: _, node: _ } = best else {
-        return StepAnswer::Status(SearchStatus::Impossible);
-    };
-    let shown = shown_at(holder);
-    match shown {
-        Shown::Nothing => StepAnswer::Status(SearchStatus::Incomplete),
-        Shown::Node { slot: _, node: _ } => StepAnswer::Status(status_of(words, shown)),
+    match best {
+        None => SearchStatus::Impossible,
+        Some(_) => match shown_at(holder) {
+            None => SearchStatus::Incomplete,
+            Some(shown) => status_of(words, Some(shown)),
+        },
     }
 }
 
 // What a whole search came to: its answer, how many steps waited, the tickets of all, the node that it shows, and its record.
 #[derive(Clone, Copy)]
 pub struct SearchRun {
-    pub answer: StepAnswer,
+    pub answer: Result<SearchStatus, Refusal>,
     pub waits: usize,
     pub tickets: usize,
-    pub shown: Shown,
+    pub shown: Option<Shown>,
     pub search: Search,
 }
 
@@ -117,18 +109,15 @@ pub fn run_search(words: &mut [u32], starts: &[u32], goals: &[u32]) -> SearchRun
     requires { SoundWords words.old }
     ensures { Runs words.old starts.now goals.now result words.new }
 {
-    let opened = initialize(words, starts, goals);
-    let search = opened.search;
-    let answer = opened.answer;
-    match answer {
-        InitializeAnswer::Refused { refusal, line } => SearchRun {
-            answer: StepAnswer::Refused { refusal, line },
+    match initialize(words, starts, goals) {
+        Ok(search) => run_opened(words, search),
+        Err(refusal) => SearchRun {
+            answer: Err(refusal),
             waits: 0,
             tickets: 0,
-            shown: Shown::Nothing,
-            search,
+            shown: None,
+            search: Search::empty(),
         },
-        InitializeAnswer::Initialized => run_opened(words, search),
     }
 }
 
@@ -140,6 +129,7 @@ fn run_opened(words: &mut [u32], search: Search) -> SearchRun
     let mut next = search;
     let mut waits: usize = 0;
     let mut tickets: usize = 0;
+    // Steps are counted for the answer; how many there will be is known by no range.
     while !next.exhausted {
         let stepped = step_trees(words, next);
         tickets += stepped.tickets;
@@ -150,7 +140,7 @@ fn run_opened(words: &mut [u32], search: Search) -> SearchRun
     let holder = next.trees[best_entry(best)];
     let shown = shown_of(best, holder);
     SearchRun {
-        answer: StepAnswer::Status(status_of(words, shown)),
+        answer: Ok(status_of(words, shown)),
         waits,
         tickets,
         shown,
@@ -159,54 +149,40 @@ fn run_opened(words: &mut [u32], search: Search) -> SearchRun
 }
 
 // What a step of the search answers. A refused or a finished one does no more.
-fn standing(words: &[u32], search: Search) -> StepAnswer
+fn standing(words: &[u32], search: Search) -> Result<SearchStatus, Refusal>
     requires { SoundWords words.now }
     ensures { step_reply result ≡ (Model-step (read_cache words.now) search).reply }
 {
-    match judge(words, search) {
-        Standing::Invalid => StepAnswer::Refused {
-            refusal: Refusal::InvalidSearch,
-            line: 0,
-        },
-        Standing::Unfinished => StepAnswer::Status(SearchStatus::Incomplete),
-        Standing::Finished(shown) => StepAnswer::Status(status_of(words, shown)),
+    match judge(words, search)? {
+        Standing::Unfinished => Ok(SearchStatus::Incomplete),
+        Standing::Finished(shown) => Ok(status_of(words, shown)),
     }
 }
 
-fn is_waiting(answer: StepAnswer) -> bool
+fn is_waiting(answer: Result<SearchStatus, Refusal>) -> bool
     ensures { result ≡ is_waiting (step_reply answer) }
 {
-    let StepAnswer::Status(status) = answer else {
-        return false;
-    };
-    match status {
-        SearchStatus::Incomplete => true,
-        SearchStatus::Solved {
-            total_cost: _,
-            moves: _,
-        } => false,
-        SearchStatus::Impossible => false,
-    }
+    matches!(answer, Ok(SearchStatus::Incomplete))
 }
 
 pub fn not_stepped(search: Search, refusal: Refusal) -> Stepped
     ensures { result ≡ not_stepped search refusal }
 {
     Stepped {
-        answer: StepAnswer::Refused { refusal, line: 0 },
+        answer: Err(refusal),
         tickets: 0,
         search,
     }
 }
 
 // Writes the path of a search that finished as solved: first vertex, then edge and vertex for each move, in the graph's own direction.
-pub fn retrace(words: &[u32], search: Search, path: &mut [u32]) -> RetraceAnswer
+pub fn retrace(words: &[u32], search: Search, path: &mut [u32]) -> Result<usize, Refusal>
     requires { SoundWords words.now }
     ensures { Retraces words.now search path.old result path.new }
 {
-    match judge(words, search) {
-        Standing::Invalid => not_retraced(Refusal::InvalidSearch),
-        Standing::Unfinished => not_retraced(Refusal::NotSolved),
+    let standing = judge(words, search)?;
+    match standing {
+        Standing::Unfinished => Err(Refusal::NotSolved),
         Standing::Finished(shown) => retrace_shown(words, shown, path),
     }
 }

@@ -11,63 +11,63 @@ ghost use Rattle.unchecked.specs.Shown.{Shows, shown_of, status_of};
 ghost use Rattle.unchecked.specs.Retrace.{RetracesShown, RetracesNode};
 
 use layout::slots::slot_words;
-use layout::wide;
 use memory::{Shown, shown_at};
-use model::{BestSolution, Refusal, RetraceAnswer, SearchStatus, TreeMemory};
+use model::{BestSolution, Refusal, SearchStatus, TreeMemory};
 
 // The solution that the entry holds which found the best.
-pub fn shown_of(best: BestSolution, holder: TreeMemory) -> Shown
+pub fn shown_of(best: Option<BestSolution>, holder: TreeMemory) -> Option<Shown>
     ensures { result ≡ shown_of best holder }
 {
-    match best {
-        BestSolution::NoBest => Shown::Nothing,
-        BestSolution::Best { entry: _, node: _ } => shown_at(holder),
-    }
+    best?;
+    shown_at(holder)
 }
 
 // The answer of a finished search.
-pub fn status_of(words: &[u32], shown: Shown) -> SearchStatus
+pub fn status_of(words: &[u32], shown: Option<Shown>) -> SearchStatus
     requires { Shows words.now shown }
     ensures { status result ≡ status_of (read_cache words.now).trees shown }
 {
-    let Shown::Node { slot, node } = shown else {
-        return SearchStatus::Impossible;
-    };
-    SearchStatus::Solved {
-        total_cost: node_cost(words, slot, node),
-        moves: moves(words, slot, node),
+    match shown {
+        None => SearchStatus::Impossible,
+        Some(Shown { slot, node }) => SearchStatus::Solved {
+            total_cost: node_cost(words, slot, node),
+            moves: moves(words, slot, node),
+        },
     }
 }
 
 // The path to the node shown.
-pub fn retrace_shown(words: &[u32], shown: Shown, path: &mut [u32]) -> RetraceAnswer
+pub fn retrace_shown(
+    words: &[u32],
+    shown: Option<Shown>,
+    path: &mut [u32],
+) -> Result<usize, Refusal>
     requires { Shows words.now shown }
     ensures { RetracesShown words.now shown path.old result path.new }
 {
-    let Shown::Node { slot, node } = shown else {
-        return not_retraced(Refusal::NotSolved);
-    };
-    retrace_node(words, slot, node, path)
-}
-
-pub fn not_retraced(refusal: Refusal) -> RetraceAnswer
-    ensures { result ≡ RetraceAnswer.Refused refusal 0 }
-{
-    RetraceAnswer::Refused { refusal, line: 0 }
+    match shown {
+        None => Err(Refusal::NotSolved),
+        Some(Shown { slot, node }) => retrace_node(words, slot, node, path),
+    }
 }
 
 // The path to a node of the tree in a slot, if the slice has room for it.
-pub fn retrace_node(words: &[u32], slot: usize, node: u32, path: &mut [u32]) -> RetraceAnswer
+pub fn retrace_node(
+    words: &[u32],
+    slot: usize,
+    node: u32,
+    path: &mut [u32],
+) -> Result<usize, Refusal>
     requires { HasNode words.now slot node }
     ensures { RetracesNode words.now slot node path.old result path.new }
 {
     let count = moves(words, slot, node);
     if path.len() < 1 + 2 * count {
-        return not_retraced(Refusal::ShortPath);
+        return Err(Refusal::ShortPath);
     }
     let tree = slot_words(words, slot);
-    paths::backtrack(words, tree, wide(node), path);
-    RetraceAnswer::Moves(count)
+    paths::backtrack(words, tree, node as usize, path);
+    Ok(count)
 }
 
 // A node's cost, in the tree of a slot.
@@ -75,7 +75,7 @@ fn node_cost(words: &[u32], slot: usize, node: u32) -> u32
     requires { HasNode words.now slot node }
     ensures { result ≡ (Tree·node (tree (read_cache words.now).trees slot).nodes node).cost }
 {
-    layout::node_cost(slot_words(words, slot), wide(node))
+    layout::node_cost(slot_words(words, slot), node as usize)
 }
 
 // How many moves lead to a node, in the tree of a slot.
@@ -83,5 +83,5 @@ fn moves(words: &[u32], slot: usize, node: u32) -> usize
     requires { HasNode words.now slot node }
     ensures { result ≡ moves_of (tree (read_cache words.now).trees slot).nodes node }
 {
-    paths::moves(slot_words(words, slot), wide(node))
+    paths::moves(slot_words(words, slot), node as usize)
 }

@@ -5,8 +5,8 @@ use Rattle.board.proofs.perillabeam_retrace.Goals as goal
 pub decode-requires : goal.decode-requires
 decode-requires c = search (rules, tests, retrace-strange, has_room, retrace-told, retrace-refused)
 
-pub returns-in-Moves : goal.returns-in-Moves
-returns-in-Moves c = search (rules, tests, retrace-told)
+pub returns-in-Ok : goal.returns-in-Ok
+returns-in-Ok c = search (rules, tests, retrace-told)
 
-pub returns-in-Refused : goal.returns-in-Refused
-returns-in-Refused c = search (rules, tests, retrace-refused)
+pub returns-in-Err : goal.returns-in-Err
+returns-in-Err c = search (rules, tests, retrace-refused)

@@ -9,10 +9,9 @@ loop-e-init c = search (rules, lines_start)
 -- src/lib.rt:163:9
 pub put_edge-end-requires : goal.put_edge-end-requires
 put_edge-end-requires c =
-    let below = rw c.header-edges.ensures at c.loop-e-test.true in
-    (c.requires.0, (below, lines-room _ _ _ _ _ below c.loop-e.invariant.1 c.loop-e.invariant.2 c.requires.1))
+    let below = rw c.header-e-end.ensures at c.loop-e-test.true in
+    (c.requires.0, (below, lines-room _ _ _ _ _ below c.loop-e.auto.out c.loop-e.invariant c.requires.1))
 
 -- src/lib.rt:162:5
 pub loop-e-preserved : goal.loop-e-preserved
-loop-e-preserved c =
-    (omega arith, omega arith, lines_next _ _ _ _ (omega (arith, c.requires.1)) c.loop-e.invariant.2 c.put_edge-end.ensures)
+loop-e-preserved c = lines_next _ _ _ _ (omega (arith, c.requires.1)) c.loop-e.invariant c.put_edge-end.ensures

@@ -9,10 +9,9 @@ loop-v-init c = search (rules, lines_start)
 -- src/lib.rt:92:9
 pub put_vertex-end-requires : goal.put_vertex-end-requires
 put_vertex-end-requires c =
-    let below = rw c.header-vertices.ensures at c.loop-v-test.true in
-    (c.requires.0, (below, lines-room _ _ _ _ _ below c.loop-v.invariant.1 c.loop-v.invariant.2 c.requires.1))
+    let below = rw c.header-v-end.ensures at c.loop-v-test.true in
+    (c.requires.0, (below, lines-room _ _ _ _ _ below c.loop-v.auto.out c.loop-v.invariant c.requires.1))
 
 -- src/lib.rt:91:5
 pub loop-v-preserved : goal.loop-v-preserved
-loop-v-preserved c =
-    (omega arith, omega arith, lines_next _ _ _ _ (omega (arith, c.requires.1)) c.loop-v.invariant.2 c.put_vertex-end.ensures)
+loop-v-preserved c = lines_next _ _ _ _ (omega (arith, c.requires.1)) c.loop-v.invariant c.put_vertex-end.ensures

@@ -5,7 +5,7 @@ use Rattle.entry_turns.proofs.Held.{with_found}
 use Rattle.entry_turns.proofs.Round.{best-place, can-bound, bound-is, can-turn, can-record, few-tickets, rounds}
 use Rattle.entry_turns.proofs.Walked.{walked_none, has-entry, goals-lent, walked-few, walked_next, walked_all}
 use Rattle.entry_turns.proofs.step_trees.Goals as goal
-use Rattle.entry_turns.proofs.step_trees.Goals.{then-r, else-r, in-Len, in_default, in-Replaces, in_default-judge, Joined-r, Joined-judge}
+use Rattle.entry_turns.proofs.step_trees.Goals.{then-r, else-r, in-Some, in_default, in-Some-judge, in_default-judge, Joined-r, Joined-r-2, Joined-judge}
 
 pub loop-i-init : goal.loop-i-init
 loop-i-init c = search (rules, walked_none)
@@ -23,16 +23,16 @@ pub turn-r-requires : goal.turn-r-requires
 turn-r-requires c = search (rules, can-turn, goals-lent, has-entry)
 
 -- the record with the count, with the mark, and with the find
-counted : (c : Joined-r) → c.match-known.next ≡ remembered c.loop-i.next c.loop-i.i c.turn-r.result.known
+counted : (c : Joined-r) → c.match-r.next ≡ remembered c.loop-i.next c.loop-i.i c.turn-r.result.known
 counted c =
-    elim c.match-known.branch [
-      | in-Len w ↦ w.next-is ∙ w.with_known_len-next.ensures ∙ sym (ap (remembered _ _) w.in-Len.is)
+    elim c.match-r.branch [
+      | in-Some w ↦ w.next-is ∙ w.with_known_len-next.ensures ∙ sym (ap (remembered _ _) w.in-Some.is)
       | in_default w ↦ w.next-is ∙ sym (ap (remembered _ _) w.in_default.is)
     ]
 
-marked : (c : Joined-r) → c.if-r.next ≡ unfinished_if c.turn-r.result.more c.match-known.next
+marked : (c : Joined-r-2) → c.if-r.next ≡ unfinished_if c.turn-r.result.more c.match-r.next
 marked c =
-    let by : Bool → Search = λ m. unfinished_if m c.match-known.next in
+    let by : Bool → Search = λ m. unfinished_if m c.match-r.next in
     elim c.if-r.branch [
       | then-r w ↦ w.next-is ∙ w.with_exhausted-next-then-r.ensures ∙ sym (ap by w.if-r.true)
       | else-r w ↦ w.next-is ∙ sym (ap by w.if-r.false)
@@ -41,7 +41,7 @@ marked c =
 found : (c : Joined-judge) → c.match-judge.next ≡ with_found c.if-r.next c.loop-i.i c.judge.result
 found c =
     elim c.match-judge.branch [
-      | in-Replaces w ↦ w.next-is ∙ w.with_find-next.ensures ∙ sym (ap (with_found _ _) w.in-Replaces.is)
+      | in-Some-judge w ↦ w.next-is ∙ w.with_find-next.ensures ∙ sym (ap (with_found _ _) w.in-Some-judge.is)
       | in_default-judge w ↦ w.next-is ∙ sym (ap (with_found _ _) w.in_default-judge.is)
     ]
 
@@ -61,12 +61,13 @@ overflow_add-tickets c =
 pub loop-i-preserved : goal.loop-i-preserved
 loop-i-preserved c =
     let j = (goal.at.loop-i-preserved c).Joined-judge in
-    let r = (goal.at.loop-i-preserved c).Joined-r in
+    let k = (goal.at.loop-i-preserved c).Joined-r in
+    let r = (goal.at.loop-i-preserved c).Joined-r-2 in
     let w = c.loop-i.invariant in
     let has = has-entry w c.loop-i-test.true in
     let bound = bound-is has c.best_entry.ensures c.cost_bound-bound.ensures in
     walked_next w c.loop-i-test.true
-    (rounds has (goals-lent w c.loop-i-test.true) bound c.turn-r.ensures (counted r) (marked r) c.judge.ensures (found j))
+    (rounds has (goals-lent w c.loop-i-test.true) bound c.turn-r.ensures (counted k) (marked r) c.judge.ensures (found j))
 
 pub returns : goal.returns
 returns c = search (rules, walked_all)

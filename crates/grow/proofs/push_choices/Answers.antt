@@ -5,8 +5,8 @@ use Rattle.grow.proofs.push_choices.Goals as goal
 pub loop-edge-init : goal.loop-edge-init
 loop-edge-init c = search (rules, tests, pushing-none)
 
-pub returns-in_default : goal.returns-in_default
-returns-in_default c = search (rules, tests, pushing-end)
+pub returns : goal.returns
+returns c = search (rules, tests, pushing-end)
 
 pub push_choice-requires : goal.push_choice-requires
 push_choice-requires c = search (rules, tests, can-push-next)

@@ -2,6 +2,5 @@ use Rattle.std.proofs.Common.{rules, arith}
 use Rattle.put_text.proofs.GraphLines.{vertex-most}
 use Rattle.limits.proofs.put_vertices.Goals as goal
 
--- src/main.rt:168:9
 pub put_vertex-at-requires : goal.put_vertex-at-requires
-put_vertex-at-requires c = (search rules, omega (arith, vertex-most c.loop-v.v c.args.s.initial))
+put_vertex-at-requires c = (search rules, omega (arith, vertex-most))

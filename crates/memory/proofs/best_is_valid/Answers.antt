@@ -1,6 +1,5 @@
 use Rattle.memory.proofs.Entries.{best-has-node}
 use Rattle.memory.proofs.best_is_valid.Goals as goal
 
--- src/lib.rt:151:9
-pub solution_cost-cost-requires : goal.solution_cost-cost-requires
-solution_cost-cost-requires c = search best-has-node
+pub solution_cost-requires : goal.solution_cost-requires
+solution_cost-requires c = search best-has-node

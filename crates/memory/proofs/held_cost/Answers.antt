@@ -1,6 +1,5 @@
 use Rattle.memory.proofs.Fits.{held-node}
 use Rattle.memory.proofs.held_cost.Goals as goal
 
--- src/lib.rt:178:48
 pub solution_cost-requires : goal.solution_cost-requires
-solution_cost-requires c = search held-node
+solution_cost-requires c = held-node c.requires (c.in_ok-node.was {u = tt})

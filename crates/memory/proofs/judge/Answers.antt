@@ -1,4 +1,5 @@
 use Rattle.std.proofs.Common.{rules, ◌∙◌}
+use Rattle.memory.proofs.Costs.{none-is}
 use Rattle.memory.proofs.Judged.{none-best, held-best, stands}
 use Rattle.memory.proofs.Valid.{many-trees, many_goals, goals-refuse, none_passed, entry-refuses, can-judge, one-passed, no-best, best-beyond, best-in-use, best-is}
 use Rattle.memory.proofs.judge.Goals as goal
@@ -25,10 +26,11 @@ pub loop-i-preserved : goal.loop-i-preserved
 loop-i-preserved c = search one-passed
 
 pub returns-in_default : goal.returns-in_default
-returns-in_default c = search (stands, no-best, none-best)
+returns-in_default c =
+    stands c.args.words.now c.args.search (no-best c.loop-i.invariant c.loop-i-test.false c.in_default.is (none-is c.loop-i.least _ c.is_none.ensures)) (none-best c.args.search c.in_default.is) c.stands.ensures
 
-pub returns-then-search-entry : goal.returns-then-search-entry
-returns-then-search-entry c = search best-beyond
+pub returns-then-search-best : goal.returns-then-search-best
+returns-then-search-best c = search best-beyond
 
 pub best_is_valid-is_valid-requires : goal.best_is_valid-is_valid-requires
 best_is_valid-is_valid-requires c = search best-in-use
@@ -36,5 +38,5 @@ best_is_valid-is_valid-requires c = search best-in-use
 pub returns : goal.returns
 returns c =
     let p = c.loop-i.invariant in
-    stands c.args.words.now c.args.search (best-is p c.loop-i-test.false c.in-Best.is c.if-search-entry.false c.best_is_valid-is_valid.ensures)
-    (c.shown_at.ensures ∙ held-best c.args.search c.in-Best.is) c.stands-2.ensures
+    stands c.args.words.now c.args.search (best-is p c.loop-i-test.false c.in-Some.is c.if-search-best.false c.best_is_valid-is_valid.ensures)
+    (c.shown_at.ensures ∙ held-best c.args.search c.in-Some.is) c.stands-2.ensures

@@ -3,7 +3,3 @@ use Rattle.memory.proofs.judge.Given as goal
 
 abbrev pub invariant-loop-i : goal.invariant-loop-i
 invariant-loop-i l = Passed l.words l.fn.search l.least l.i
-
--- proposed from the loop's first test
-abbrev pub decreases-loop-i : goal.decreases-loop-i
-decreases-loop-i l = l.i

@@ -1,6 +1,6 @@
 use Rattle.std.proofs.Common.{tests, rules}
-use Rattle.order_run.proofs.Texts.{lists-lent, ran-search}
+use Rattle.order_run.proofs.Texts.{ran-search}
 use Rattle.order_run.proofs.put_search.Goals as goal
 
 pub returns : goal.returns
-returns c = search (rules, tests, lists-lent, ran-search)
+returns c = search (rules, tests, ran-search)

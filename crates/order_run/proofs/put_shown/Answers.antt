@@ -4,5 +4,5 @@ use Rattle.order_run.proofs.Sizes.{path-fits, path-text, short-text}
 use Rattle.order_run.proofs.Texts.{puts-as}
 use Rattle.order_run.proofs.put_shown.Goals as goal
 
-pub returns-in-Moves : goal.returns-in-Moves
-returns-in-Moves c = search (rules, tests, node-shown, path-fits, path-text, puts-as, short-text)
+pub returns-in-Ok : goal.returns-in-Ok
+returns-in-Ok c = search (rules, tests, node-shown, path-fits, path-text, puts-as, short-text)

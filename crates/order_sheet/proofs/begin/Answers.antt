@@ -3,42 +3,37 @@ use borrow.Author.Tests.{ltb-false}
 use Rattle.order_run.specs.Lent.{max_bytes}
 use Rattle.order_sheet.specs.Whole.{title}
 use Rattle.order_sheet.proofs.Whole.{begin-refused, overlong-chart, overlong-orders, chart-refused, begin-opened}
+use Rattle.order_sheet.proofs.begin.Goals.{then-is_overlong-via-then-is_overlong, then-is_overlong-via-else-is_overlong+then-is_overlong-2}
 use Rattle.order_sheet.proofs.begin.Goals as goal
 
--- src/lib.rt:79:9
 pub returns-then-is_overlong : goal.returns-then-is_overlong
 returns-then-is_overlong c =
-    begin-refused _ 4 _ _ (overlong-chart _ _ (sym c.if-is_overlong.true ∙ c.is_overlong.ensures)) c.refused_sheet.ensures
-
--- src/lib.rt:82:9
-pub returns-then-is_overlong-2 : goal.returns-then-is_overlong-2
-returns-then-is_overlong-2 c =
     begin-refused _ 4 _ _
-    (overlong-orders _ _ (sym c.if-is_overlong.false ∙ c.is_overlong.ensures) (sym c.if-is_overlong-2.true ∙ c.is_overlong-2.ensures))
-    c.refused_sheet-then-is_overlong-2.ensures
+    (elim c.then-is_overlong.branch [
+      | then-is_overlong-via-then-is_overlong w ↦ overlong-chart _ _ (sym w.if-is_overlong.true ∙ c.is_overlong.ensures)
+      | then-is_overlong-via-else-is_overlong+then-is_overlong-2 w ↦ overlong-orders _ _ (sym w.if-is_overlong.false ∙ c.is_overlong.ensures)
+          (sym w.if-is_overlong-2.true ∙ w.is_overlong-else-is_overlong.ensures)
+    ])
+    c.refused_sheet.ensures
 
--- src/lib.rt:85:9
-pub returns-in-Refused : goal.returns-in-Refused
-returns-in-Refused c =
+pub returns-in-Err : goal.returns-in-Err
+returns-in-Err c =
     begin-refused _ _ _ _
-    (chart-refused _ _ (sym c.if-is_overlong.false ∙ c.is_overlong.ensures) (sym c.if-is_overlong-2.false ∙ c.is_overlong-2.ensures)
-    _ _ 0 refl c.requires.forward c.open.ensures c.in-Refused.is c.number.ensures)
-    c.refused_sheet-in-Refused.ensures
+    (chart-refused _ _ (sym c.if-is_overlong.false ∙ c.is_overlong.ensures) (sym c.if-is_overlong-2.false ∙ c.is_overlong-else-is_overlong.ensures)
+    _ _ 0 _ refl c.requires.forward c.in-Err.ensures)
+    c.refused_sheet-in-Err.ensures
 
--- src/lib.rt:88:9
-pub returns-in-Refused-open : goal.returns-in-Refused-open
-returns-in-Refused-open c =
+pub returns-in-Err-open : goal.returns-in-Err-open
+returns-in-Err-open c =
     begin-refused _ _ _ _
-    (chart-refused _ _ (sym c.if-is_overlong.false ∙ c.is_overlong.ensures) (sym c.if-is_overlong-2.false ∙ c.is_overlong-2.ensures)
-    _ _ 1 refl c.requires.backward c.open-2.ensures c.in-Refused-open.is c.number-in-Refused-open.ensures)
-    c.refused_sheet-in-Refused-open.ensures
+    (chart-refused _ _ (sym c.if-is_overlong.false ∙ c.is_overlong.ensures) (sym c.if-is_overlong-2.false ∙ c.is_overlong-else-is_overlong.ensures)
+    _ _ 1 _ refl c.requires.backward c.in-Err-open.ensures)
+    c.refused_sheet-in-Err-open.ensures
 
--- src/lib.rt:68:1
 pub returns : goal.returns
 unfolding title
 returns c =
     let short = sym c.if-is_overlong.false ∙ c.is_overlong.ensures in
-    let fewer = sym c.if-is_overlong-2.false ∙ c.is_overlong-2.ensures in
+    let fewer = sym c.if-is_overlong-2.false ∙ c.is_overlong-else-is_overlong.ensures in
     let few : length c.args.orders.now ≤ max_bytes = omega (arith, ltb-false max_bytes (length c.args.orders.now) (sym fewer)) in
-    begin-opened _ _ short fewer _ _ c.requires.forward few
-    (rw c.in_default.is at c.open.ensures) (rw c.in_default-open.is at c.open-2.ensures) c.put_bytes.ensures
+    begin-opened _ _ short fewer _ _ c.requires.forward few c.in_default.ensures c.in_default-open.ensures c.put_bytes.ensures

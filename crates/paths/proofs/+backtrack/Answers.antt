@@ -1,4 +1,4 @@
-use Rattle.std.proofs.Common.{◌∙◌, ℕ, ◌-◌, length, arith}
+use Rattle.std.proofs.Common.{ℕ, ◌-◌, length, arith}
 use Rattle.std.proofs.Math.ListN.{length-set}
 use borrow.Rule.Slice.PartMut.{mid_len, same_len_mid}
 use Rattle.paths.proofs.Backtracked.{Below, root-backtracks, parent-less, parent-can, two-words, parent-room, forward-backtracks, backward-backtracks}
@@ -10,7 +10,7 @@ child : (t : ℕ) (c : After-node_edge-edge t) → Below
     c.args.words.now
     c.args.tree.now
     c.args.node
-    c.wide-parent.result
+    c.node_parent-parent.result
     c.node_edge-edge.result
     c.node_vertex-vertex.result
     (length c.args.path.now)
@@ -18,7 +18,7 @@ child t c =
     record {
       can = c.requires;
       child = c.if-node-eq0.false;
-      parent = c.wide-parent.ensures ∙ c.node_parent.ensures;
+      parent = c.node_parent-parent.ensures;
       edge = c.node_edge-edge.ensures;
       vertex = c.node_vertex-vertex.ensures;
     }

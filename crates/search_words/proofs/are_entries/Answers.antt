@@ -1,19 +1,12 @@
-use Rattle.std.proofs.Common.{rules}
-use Rattle.model.proofs.InTurn.{none_yet, one-fails, one_more, all-passed}
+use Rattle.std.proofs.Common.{rules, refl, ◌∙◌}
+use Rattle.std.proofs.lemmas.Iterator.{YieldsList-from_range}
+use Rattle.std.proofs.lemmas.Iterator.Search.{all_from_yields_List}
+use Rattle.search_words.specs.Record.{entryb}
+use Rattle.search_words.proofs.Filled.{all-upto}
 use Rattle.search_words.proofs.are_entries.Goals as goal
 
--- src/lib.rt:57:5
-pub loop-i-init : goal.loop-i-init
-loop-i-init c = search (rules, none_yet)
-
--- src/lib.rt:59:13
-pub returns-then-not-is_entry : goal.returns-then-not-is_entry
-returns-then-not-is_entry c = search (rules, one-fails)
-
--- src/lib.rt:57:5
-pub loop-i-preserved : goal.loop-i-preserved
-loop-i-preserved c = search (rules, one_more)
-
--- src/lib.rt:52:1
+-- src/lib.rt:118:1
 pub returns : goal.returns
-returns c = search (rules, all-passed)
+returns c =
+    all_from_yields_List (entryb c.args.words.now) _ _ _ c.all.ensures.ran (YieldsList-from_range 0 64 64 refl refl) (λ x b q k. search rules)
+    ∙ all-upto (entryb c.args.words.now) 64

@@ -1,15 +1,12 @@
-use Rattle.std.proofs.Common.{rules}
-use Rattle.sound.proofs.Cache.{initials-fail, edges-fail, can-index, graph-last}
+use Rattle.std.proofs.Common.{arith}
+use Rattle.sound.proofs.Cache.{can-index, graph-reads}
 use Rattle.sound.proofs.graph_is_sound.Goals as goal
 
-pub returns-then-not-initials_are_sound : goal.returns-then-not-initials_are_sound
-returns-then-not-initials_are_sound c = search (rules, initials-fail)
-
-pub returns-then-not-edges_are_sound : goal.returns-then-not-edges_are_sound
-returns-then-not-edges_are_sound c = search (rules, edges-fail)
-
 pub index_is_sound-requires : goal.index_is_sound-requires
-index_is_sound-requires c = search (rules, can-index)
+index_is_sound-requires c = can-index c.args.words.now c.requires c.graph_size-size.ensures.0 c.graph_size-size.ensures.1 (grind arith)
 
-pub returns : goal.returns
-returns c = search (rules, graph-last)
+pub returns-then-edges_are_sound : goal.returns-then-edges_are_sound
+returns-then-edges_are_sound c = grind (arith, graph-reads c.args.words.now c.requires c.graph_size-size.ensures.0 c.graph_size-size.ensures.1)
+
+pub returns-else-edges_are_sound : goal.returns-else-edges_are_sound
+returns-else-edges_are_sound c = grind (arith, graph-reads c.args.words.now c.requires c.graph_size-size.ensures.0 c.graph_size-size.ensures.1)

@@ -1,4 +1,4 @@
-use Rattle.std.proofs.Common.{◌-◌, ◌≡◌, true, ◌≤◌, length}
+use Rattle.std.proofs.Common.{◌≡◌, true}
 use Rattle.sound.specs.Check.{treesb}
 use Rattle.model.specs.Sound.{starts as starts_of}
 use Rattle.layout.specs.Layout.{vertices_in, edges_in}
@@ -8,8 +8,4 @@ use Rattle.sound.proofs.trees_in_use_are_sound.Given as goal
 
 abbrev pub invariant-loop-i : goal.invariant-loop-i
 invariant-loop-i l =
-    (l.i ≤ l.trees) × (treesb l.i l.words ≡ true) × Marked l.starts 1024 (starts_of (read_trees (vertices_in l.words) (edges_in l.words) l.i l.words)) × (length l.starts ≡ length l.initial.starts)
-
--- proposed from the loop's first test
-abbrev pub decreases-loop-i : goal.decreases-loop-i
-decreases-loop-i l = l.trees - l.i
+    (treesb l.i l.words ≡ true) × Marked l.starts 1024 (starts_of (read_trees (vertices_in l.words) (edges_in l.words) l.i l.words))

@@ -1,14 +1,14 @@
 use Rattle.std.proofs.Common.{rules}
 use Rattle.tree.proofs.Added.{push-open, push-within, push-above}
-use Rattle.tree.proofs.push_node.Goals.{in-Open, in-Closed+else-evaluation-evaluation_of}
+use Rattle.tree.proofs.push_node.Goals.{in_default-via-in-None-1, in_default-via-in-Some+else-evaluation-evaluation_of}
 use Rattle.tree.proofs.push_node.Goals as goal
 
-pub returns-then-evaluation-evaluation_of : goal.returns-then-evaluation-evaluation_of
-returns-then-evaluation-evaluation_of c = search (rules, push-within)
-
 pub returns : goal.returns
-returns c =
-    elim c.match-status.branch [
-      | in-Open w ↦ search (rules, push-open)
-      | in-Closed+else-evaluation-evaluation_of w ↦ search (rules, push-above)
+returns c = search (rules, push-within)
+
+pub returns-2 : goal.returns-2
+returns-2 c =
+    elim c.in_default.branch [
+      | in_default-via-in-None-1 w ↦ search (rules, push-open)
+      | in_default-via-in-Some+else-evaluation-evaluation_of w ↦ search (rules, push-above)
     ]

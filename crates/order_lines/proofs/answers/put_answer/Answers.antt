@@ -14,7 +14,7 @@ put_bytes-requires-in-Refused c = search (rules, refused-length)
 
 -- src/answers.rt:60:1
 pub returns-in-Solved : goal.returns-in-Solved
-returns-in-Solved c = rw (c.in-Solved.is, ← c.wide.ensures) (puts_then (omega arith) c.put_bytes-a.ensures c.put_field.ensures)
+returns-in-Solved c = rw c.in-Solved.is (puts_then (omega arith) c.put_bytes-a.ensures c.put_field.ensures)
 
 -- src/answers.rt:60:1
 pub returns-in-Refused : goal.returns-in-Refused

@@ -1,27 +1,29 @@
-use Rattle.std.proofs.Common.{rules}
-use Rattle.order_lines.proofs.Lists.{list-none, reading-start, reading-within, reading-illegal, reading-next, reading-end}
+use Rattle.std.proofs.Common.{◌≡◌, None, sym, ◌∙◌, rules, tests}
+use Rattle.text.proofs.Splits.{pieces-start, pieces-end, next_piece}
+use Rattle.order_lines.proofs.Lists.{list-none, reading-start, reading-none, reading-next, reading-full, reading-end}
 use Rattle.order_lines.proofs.orders.read_list.Goals as goal
 
--- src/orders.rt:125:9
-pub returns-then-field-eq0 : goal.returns-then-field-eq0
-returns-then-field-eq0 c = search (rules, list-none)
+pub returns-then-is_empty : goal.returns-then-is_empty
+returns-then-is_empty c = list-none _ _ (search (rules, tests)) c.new-list.ensures
 
--- src/orders.rt:129:5
-pub loop-at-init : goal.loop-at-init
-loop-at-init c = search (rules, reading-start)
+pub loop-number-init : goal.loop-number-init
+loop-number-init c = search (rules, reading-start, pieces-start)
 
--- src/orders.rt:132:41
-pub slice_bounds-read_number-end : goal.slice_bounds-read_number-end
-slice_bounds-read_number-end c = search (rules, reading-within)
+pub returns-in_err-n : goal.returns-in_err-n
+returns-in_err-n c =
+    let piece = next_piece c.args.b c.loop-number.yielded c.loop-number.number-iterator _ c.in-Some.number c.loop-number.yielded_by c.in-Some.is c.next.ensures.steps c.into_iter-number-iterator.ensures.into_iter_gives c.split-number-items.ensures.closure (λ y o q k. search (rules, tests)) in
+    let none : c.from_residual.result ≡ None = search rules in
+    none ∙ reading-none c.loop-number.invariant piece (sym c.read_number.ensures ∙ c.in_err-n.was)
 
--- src/orders.rt:133:13
-pub returns-in_default : goal.returns-in_default
-returns-in_default c = search (rules, reading-illegal)
+pub loop-number-preserved-then-not-is_full : goal.loop-number-preserved-then-not-is_full
+loop-number-preserved-then-not-is_full c =
+    let piece = next_piece c.args.b c.loop-number.yielded c.loop-number.number-iterator _ c.in-Some.number c.loop-number.yielded_by c.in-Some.is c.next.ensures.steps c.into_iter-number-iterator.ensures.into_iter_gives c.split-number-items.ensures.closure (λ y o q k. search (rules, tests)) in
+    search (rules, tests, reading-next)
 
--- src/orders.rt:129:5
-pub loop-at-preserved : goal.loop-at-preserved
-loop-at-preserved c = search (rules, reading-next, reading-within)
+pub loop-number-preserved : goal.loop-number-preserved
+loop-number-preserved c =
+    let piece = next_piece c.args.b c.loop-number.yielded c.loop-number.number-iterator _ c.in-Some.number c.loop-number.yielded_by c.in-Some.is c.next.ensures.steps c.into_iter-number-iterator.ensures.into_iter_gives c.split-number-items.ensures.closure (λ y o q k. search (rules, tests)) in
+    search (rules, tests, reading-full)
 
--- src/orders.rt:121:1
 pub returns : goal.returns
-returns c = search (rules, reading-end)
+returns c = reading-end c.loop-number.invariant (pieces-end _ _ _ _ c.in-None.is c.next.ensures.steps)

@@ -1,10 +1,6 @@
-use Rattle.std.proofs.Common.{length, ◌+◌, ◌-◌}
+use Rattle.text.proofs.Splits.{pieces_left}
 use Rattle.order_lines.proofs.Lists.{Reading}
 use Rattle.order_lines.proofs.orders.read_list.Given as goal
 
-abbrev pub invariant-loop-at : goal.invariant-loop-at
-invariant-loop-at l = Reading l.b l.field l.list l.at
-
--- proposed from the loop's first test
-abbrev pub decreases-loop-at : goal.decreases-loop-at
-decreases-loop-at l = length l.field + 1 - l.at
+abbrev pub invariant-loop-number : goal.invariant-loop-number
+invariant-loop-number l = Reading l.fn.b l.field l.list.items (pieces_left l.fn.b l.number-iterator)

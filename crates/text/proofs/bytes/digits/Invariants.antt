@@ -1,12 +1,8 @@
-use Rattle.std.proofs.Common.{length, ◌-◌, ◌≡◌, ◌≤◌, ◌<◌}
+use Rattle.std.proofs.Common.{◌≡◌, ◌<◌}
 use Rattle.text.specs.Bytes.{digits_from}
 use Prim.Native.Nat.{◌^◌}
 use lib.ListN.{drop}
 use Rattle.text.proofs.bytes.digits.Given as goal
 
-abbrev pub invariant-loop-i : goal.invariant-loop-i
-invariant-loop-i l = (l.i ≤ length l.s) × (l.v < 10 ^ l.i) × (digits_from 0 l.s ≡ digits_from l.v (drop l.i l.s))
-
--- proposed from the loop's first test
-abbrev pub decreases-loop-i : goal.decreases-loop-i
-decreases-loop-i l = length l.s - l.i
+abbrev pub invariant-loop-b : goal.invariant-loop-b
+invariant-loop-b l = (l.v < 10 ^ l.b-index) × (digits_from 0 l.s ≡ digits_from l.v (drop l.b-index l.s))

@@ -1,9 +1,11 @@
-use Rattle.std.proofs.Common.{rules}
-use Rattle.text.proofs.Parted.{place_is}
+use Rattle.std.proofs.Common.{rules, tests, eqb}
+use Rattle.std.proofs.lemmas.Iterator.{YieldsList-from_slice}
+use Rattle.std.proofs.lemmas.Iterator.Search.{position_from_yields_List}
+use Rattle.text.proofs.Parted.{place_found}
 use Rattle.text.proofs.bytes.find.Goals as goal
 
-pub returns-then-s-i : goal.returns-then-s-i
-returns-then-s-i c = search (rules, place_is)
-
 pub returns : goal.returns
-returns c = search (rules, place_is)
+returns c =
+    place_found c.args.b c.args.s.now
+    (position_from_yields_List (λ x. eqb x c.args.b) _ _ _ c.position.ensures.ran (YieldsList-from_slice c.args.s.now cc) (λ x b q k. search (rules, tests)))
+    c.unwrap_or.ensures

@@ -1,24 +1,22 @@
-use Rattle.std.proofs.Common.{ap, sym, ◌∙◌, rules}
-use Rattle.text.specs.Read.{check_fault}
-use Rattle.text.proofs.Judged.{judging-first, judged-last, judged-unended, judged-fault, judging-next}
-use Rattle.text.proofs.LineCuts.{place-within}
+use Rattle.std.proofs.Common.{◌≡◌, Ok, rules, tests}
+use Rattle.text.proofs.Inclusive.{piece_cut, no_piece}
+use Rattle.text.proofs.Judged.{judging-first, judged-last, judged-fault, judging-next}
 use Rattle.text.proofs.counts.judge_text.Goals as goal
 
-pub loop-at-init : goal.loop-at-init
-loop-at-init c = search (rules, judging-first)
+pub loop-piece-init : goal.loop-piece-init
+loop-piece-init c = search (rules, judging-first)
 
-pub returns-then-k-rest : goal.returns-then-k-rest
-returns-then-k-rest c = search (rules, judged-unended)
+pub returns-in_err-counts : goal.returns-in_err-counts
+returns-in_err-counts c =
+    let cut = piece_cut c.loop-piece.yielded c.loop-piece.piece-iterator _ c.in-Some.piece c.loop-piece.yielded_by c.in-Some.is c.next.ensures.steps c.into_iter-piece-iterator.ensures.into_iter_gives c.split_inclusive-piece-items.ensures.closure (λ y b q k. search (rules, tests)) in
+    search (rules, judged-fault)
 
-pub slice_bounds-read_line-end : goal.slice_bounds-read_line-end
-slice_bounds-read_line-end c = search (rules, place-within)
-
-pub returns-in-Fault : goal.returns-in-Fault
-returns-in-Fault c = search (rules, judged-fault)
-
-pub loop-at-preserved : goal.loop-at-preserved
-loop-at-preserved c =
-    judging-next c.loop-at.invariant c.find-k.ensures c.if-k-rest.false c.read_line-form.ensures (ap check_fault (sym c.in_default.is) ∙ c.check.ensures) c.count-counts.ensures
+pub loop-piece-preserved : goal.loop-piece-preserved
+loop-piece-preserved c =
+    let cut = piece_cut c.loop-piece.yielded c.loop-piece.piece-iterator _ c.in-Some.piece c.loop-piece.yielded_by c.in-Some.is c.next.ensures.steps c.into_iter-piece-iterator.ensures.into_iter_gives c.split_inclusive-piece-items.ensures.closure (λ y b q k. search (rules, tests)) in
+    let judged : c.judge.result ≡ Ok c.in_ok-counts.counts = search rules in
+    let passed = rw judged at c.judge.ensures in
+    judging-next c.loop-piece.invariant cut c.read_ended.ensures passed.0 passed.1
 
 pub returns : goal.returns
-returns c = search (rules, judged-last)
+returns c = judged-last c.loop-piece.invariant (no_piece _ _ _ c.in-None.is c.next.ensures.steps)

@@ -1,11 +1,6 @@
-use Rattle.std.proofs.Common.{length, ◌-◌}
 use Rattle.layout.specs.Read.{read_cache}
 use Rattle.tree.proofs.Goals.{Cheapest}
 use Rattle.tree.proofs.partial_keyed_closed_set.cheapest_goal.Given as goal
 
-abbrev pub invariant-loop-i : goal.invariant-loop-i
-invariant-loop-i l = Cheapest (read_cache l.words).domain l.words l.edges l.tree l.goals l.best l.i
-
--- proposed from the loop's first test
-abbrev pub decreases-loop-i : goal.decreases-loop-i
-decreases-loop-i l = length l.goals - l.i
+abbrev pub invariant-loop-goal : goal.invariant-loop-goal
+invariant-loop-goal l = Cheapest (read_cache l.words).domain l.words l.edges l.tree l.goals l.best l.goal-index

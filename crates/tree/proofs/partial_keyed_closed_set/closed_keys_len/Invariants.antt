@@ -1,10 +1,5 @@
-use Rattle.std.proofs.Common.{length, ◌-◌}
-use Rattle.tree.proofs.Counted.{Counted}
+use Rattle.std.proofs.Common.{◌≡◌, count_by, ◌==◌, take}
 use Rattle.tree.proofs.partial_keyed_closed_set.closed_keys_len.Given as goal
 
-abbrev pub invariant-loop-place : goal.invariant-loop-place
-invariant-loop-place l = Counted l.edges l.tree l.unclosed l.place
-
--- proposed from the loop's first test
-abbrev pub decreases-loop-place : goal.decreases-loop-place
-decreases-loop-place l = length l.tree - l.place
+abbrev pub invariant-loop-word : goal.invariant-loop-word
+invariant-loop-word l = l.unclosed ≡ count_by (λ x. x == 0) (take l.word-index l.closed)
