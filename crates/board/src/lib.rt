@@ -13,7 +13,7 @@ ghost use Rattle.board.specs.Board.{answer_number, answer_numbers, step_waits, s
 use layout::GraphSize;
 use model::limits::{MAX_EDGES, MAX_SLOTS, MAX_VERTICES};
 use model::{Refusal, Search, SearchStatus, number};
-use search_words::{RECORD_WORDS, decode, encode, is_record};
+use search_words::{RECORD_WORDS, encode, read_record};
 
 // How many words a cache needs; refused 4 where a count is over its limit or the slots are not 1 to 64.
 #[unsafe(no_mangle)]
@@ -27,13 +27,13 @@ pub extern "C" fn perillabeam_words_needed(
 {
     if !is_sized(vertices, edges, slots) {
         *needed = 0;
-        return 4;
+        return number(Refusal::OverLimit);
     }
     *needed = GraphSize { vertices, edges }.words_needed(slots);
     0
 }
 
-// `cache::open`; a refusal's line is told through `line`.
+// `cache::open`; the direction is a number, as C passes it, and a refusal's line is told through `line`.
 #[unsafe(no_mangle)]
 pub extern "C" fn perillabeam_open(
     words: &mut [u32],
@@ -95,11 +95,11 @@ pub extern "C" fn perillabeam_step(
 ) -> u32
     ensures { StepCalled words.old search.old result answer.new words.new search.new }
 {
-    if !is_record(search) {
+    let Some(held) = read_record(search) else {
         *answer = [0; 6];
         return strange(words);
-    }
-    let stepped = dijkstra::step(words, decode(search));
+    };
+    let stepped = dijkstra::step(words, held);
     keep(stepped.answer, stepped.search, search);
     *answer = answer_numbers(
         stepped.answer,
@@ -120,11 +120,11 @@ pub extern "C" fn perillabeam_solve(
 ) -> u32
     ensures { SolveCalled words.old search.old steps result answer.new words.new search.new }
 {
-    if !is_record(search) {
+    let Some(held) = read_record(search) else {
         *answer = [0; 6];
         return strange(words);
-    }
-    let taken = planner::solve(words, decode(search), steps);
+    };
+    let taken = planner::solve(words, held, steps);
     keep(taken.answer, taken.search, search);
     *answer = answer_numbers(taken.answer, taken.waits, taken.tickets, false);
     answer_number(taken.answer)
@@ -167,20 +167,13 @@ pub extern "C" fn perillabeam_retrace(
 ) -> u32
     ensures { RetraceCalled words.now search.now path.old result moves.new path.new }
 {
-    if !is_record(search) {
+    let Some(held) = read_record(search) else {
         *moves = 0;
         return strange(words);
-    }
-    match dijkstra::retrace(words, decode(search), path) {
-        Ok(m) => {
-            *moves = m;
-            0
-        }
-        Err(refusal) => {
-            *moves = 0;
-            number(refusal)
-        }
-    }
+    };
+    let traced = dijkstra::retrace(words, held, path);
+    *moves = traced.unwrap_or(0);
+    traced.err().map_or(0, number)
 }
 
 // The counts of a graph, and slots, are within their limits.
@@ -195,9 +188,9 @@ fn strange(words: &[u32]) -> u32
     ensures { result ≡ strange_words words.now }
 {
     if sound::is_sound(words) {
-        return 8;
+        return number(Refusal::InvalidSearch);
     }
-    7
+    number(Refusal::Unsound)
 }
 
 // The record is written, unless the call was refused.
@@ -214,10 +207,7 @@ fn keep(told: Result<SearchStatus, Refusal>, next: Search, search: &mut [u32])
 fn answer_number(told: Result<SearchStatus, Refusal>) -> u32
     ensures { result ≡ answer_number (step_reply told) }
 {
-    match told {
-        Ok(_) => 0,
-        Err(refusal) => number(refusal),
-    }
+    told.err().map_or(0, number)
 }
 
 // Whether the step waited.

@@ -27,7 +27,7 @@ pub fn open(words: &mut [u32], text: &[u8], direction: u32, slots: usize) -> Res
     open_sized(words, text, direction, slots, counts)
 }
 
-// The text was judged: it has no fault.
+// The text was judged: it has no fault. The direction is a word still, which the header is to keep.
 fn open_sized(
     words: &mut [u32],
     text: &[u8],

@@ -10,14 +10,14 @@ use Rattle.model.specs.declared.Refusal.{Refusal}
 use Rattle.model.specs.declared.Search.{Search}
 use Rattle.model.specs.declared.Stepped.{Stepped}
 use Rattle.model.specs.Answers.{number, Reply, refused, Status, initialize_reply, step_reply, retrace_reply}
-use Rattle.model.specs.Search.{empty_search, roots_of}
+use Rattle.model.specs.Search.{roots_of}
 use Rattle.model.specs.Calls.{Cache, AfterRetrace}
-use Rattle.model.specs.Demands.{RefusedInitialize, RefusedStep, RefusedRetrace}
+use Rattle.model.specs.Demands.{RefusedStep, RefusedRetrace}
 use Rattle.model.proofs.Demand1.{demand-1 as model-demand-1}
 use Rattle.layout.specs.Read.{direction_of, read_cache}
 use Rattle.layout.specs.Sound.{sound_wordsb}
 use Rattle.layout.specs.Leaves.{Leaves}
-use Rattle.dijkstra.specs.Calls.{initialize_if, initialize_words, initialized_words, Initializing, step_sound_if, step_words, Stepping, retrace_if, retrace_words, Retracing}
+use Rattle.dijkstra.specs.Calls.{initialized_words, Initializing, step_sound_if, step_words, Stepping, retrace_if, retrace_words, Retracing}
 use Rattle.dijkstra.specs.Demands.{Demand1}
 use Rattle.layout.specs.Layout.{direction_in}
 

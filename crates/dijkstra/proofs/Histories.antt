@@ -7,7 +7,7 @@ use mathlib.Core.Bool.{Bool, true}
 use mathlib.Core.List.{List, ◌∷◌}
 use Prim.Native.Nat.{ℕ}
 use Rattle.model.specs.declared.Search.{Search}
-use Rattle.model.specs.Answers.{Reply, answered, Status, initialize_reply}
+use Rattle.model.specs.Answers.{Reply, answered, Status}
 use Rattle.model.specs.Graph.{Graph, Accepted}
 use Rattle.model.specs.Calls.{Cache, opened, AfterInitialize, initialize, AfterStep, step, AfterRetrace, retrace}
 use Rattle.model.specs.Demands.{Call, after, after_all, Act, Event, stepped, retraced, events}

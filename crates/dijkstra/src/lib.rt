@@ -7,6 +7,7 @@
 ghost use Rattle.dijkstra.specs.Calls.{Initializing, Stepping, Retracing};
 
 use model::{Refusal, Search, Stepped};
+use sound::known::SoundCache;
 
 // Opens a search from the starts to the goals. On a backward cache its trees root at the goals and the starts are looked for.
 pub fn initialize(words: &mut [u32], starts: &[u32], goals: &[u32]) -> Result<Search, Refusal>
@@ -35,5 +36,5 @@ pub fn retrace(words: &[u32], search: Search, path: &mut [u32]) -> Result<usize,
     if !sound::is_sound(words) {
         return Err(Refusal::Unsound);
     }
-    unchecked::retrace(words, search, path)
+    unchecked::retrace(SoundCache { words }, search, path)
 }

@@ -17,7 +17,7 @@ use Rattle.model.specs.declared.Refusal.TheVariants.{Malformed}
 use Rattle.model.specs.declared.Refused.{Refused}
 use Rattle.model.specs.declared.Planned.{Planned}
 use Rattle.model.specs.Answers.{number, Reply, answered, refused, Status, waiting, solved, no_path, step_reply}
-use Rattle.model.specs.Graph.{Graph, Accepted, forward, backward, vertex_count, edge_count}
+use Rattle.model.specs.Graph.{Graph, Accepted, vertex_count, edge_count}
 use Rattle.model.specs.Calls.{Cache, first_fault, opened}
 use Rattle.model.specs.Plan.{AfterPlan, plan}
 use Rattle.text.specs.declared.counts.Counts.{Counts}
@@ -40,7 +40,7 @@ use Rattle.drawing.specs.declared.DrawError.TheVariants.{Chart, ShortDrawing}
 use Rattle.drawing.specs.Drawing.{drawing}
 use Rattle.drawing.specs.Draw.{drawing_room, AfterDraw, drawn, refused_by, short, draw_if, draw_read, draw_text, Drawing}
 use Rattle.drawing.proofs.Drawn.{opening-refused}
-use Rattle.draw.specs.Picture.{path_by, path_in, ordered_on, ordered_by, order_path, drawn_text, with_path, picture_by, picture_text, found_by, Few, FoundIs}
+use Rattle.draw.specs.Picture.{path_by, path_in, form_number, ordered_on, ordered_by, order_path, drawn_text, with_path, picture_by, picture_text, found_by, Few, FoundIs}
 
 -- ---- the drawing, by the promise of `draw`
 
@@ -113,6 +113,10 @@ found-is (Ok s) true q e f = (omega (arith, f refl), refl)
 found-is (Ok s) false q e f = (omega arith, refl)
 found-is (Err n) has q e f = refl
 
+pub form-within : (f : Form) (d : ℕ) → d ≡ form_number f → d ≤ 1
+form-within Forward d e = omega (arith, e)
+form-within Backward d e = omega (arith, e)
+
 fine : (d : ℕ) → d ≤ 1 → first_fault (measure_faults d 16) ≡ None
 fine zero h = refl
 fine (suc zero) h = refl
@@ -145,17 +149,14 @@ module _ (text : List ℕ) (d : ℕ) (within : d ≤ 1) (left : List ℕ) where
 
 module _ (chart order : List ℕ) where
   module _ (o : Order) (read : Some o ≡ order_of order) where
-    by-form : {f : Form} → o.form ≡ f → ordered_on f o (read_graph chart) ≡ order_path chart order
-    unfolding order_path
-    by-form e = ap (λ (f : Form). ordered_on f o (read_graph chart)) (sym e) ∙ ap (λ (x : Option Order). ordered_by x (read_graph chart)) read
+    on-form : (f : Form) → path_in (direction_of (form_number f)) (read_graph chart) o.starts.items o.goals.items ≡ ordered_on f o (read_graph chart)
+    on-form Forward = refl
+    on-form Backward = refl
 
     -- ss and gs: its lists, as they are lent
-    module _ {ss gs : List ℕ} (starts : ss ≡ o.starts.items) (goals : gs ≡ o.goals.items) where
-      pub ordered-forward : o.form ≡ Forward → path_in forward (read_graph chart) ss gs ≡ order_path chart order
-      ordered-forward e = rw (starts, goals) (by-form e)
-
-      pub ordered-backward : o.form ≡ Backward → path_in backward (read_graph chart) ss gs ≡ order_path chart order
-      ordered-backward e = rw (starts, goals) (by-form e)
+    pub ordered : {d : ℕ} {ss gs : List ℕ} → d ≡ form_number o.form → ss ≡ o.starts.items → gs ≡ o.goals.items → path_in (direction_of d) (read_graph chart) ss gs ≡ order_path chart order
+    unfolding order_path
+    ordered e starts goals = rw (e, starts, goals) (on-form o.form ∙ ap (λ (x : Option Order). ordered_by x (read_graph chart)) read)
 
   -- a line of no legal form is malformed
   pub ordered-none : (o : Option Order) (f : Refusal) → o ≡ order_of order → ◌≡◌ {A = Result Order Refusal} (Err f) (ok_or o Malformed) → refused (number f) 0 ≡ order_path chart order

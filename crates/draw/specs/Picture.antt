@@ -39,6 +39,11 @@ abbrev pub path_in : Direction → Reply Graph → List ℕ → List ℕ → Rep
 path_in dir (refused n line) ss gs = refused n line
 path_in dir (answered g) ss gs = let r = plan (opened dir g lent_slots) ss gs (replicate 2047 0) in path_by r.reply r.has_path r.path
 
+-- the number of an order's direction, as `open` takes it
+abbrev pub form_number : Form → ℕ
+form_number Forward = 0
+form_number Backward = 1
+
 abbrev pub ordered_on : Form → Order → Reply Graph → Reply (List ℕ)
 ordered_on Forward o chart = path_in forward chart o.starts.items o.goals.items
 ordered_on Backward o chart = path_in backward chart o.starts.items o.goals.items

@@ -17,7 +17,7 @@ const ARGUMENT: usize = 131072;
 
 fn main(rt: HostRuntime) {
     let mut chart = [0u8; SPACE];
-    let Some(n) = read_file(&rt, b"chart.txt", &mut chart) else {
+    let Some(chart) = read_file(&rt, b"chart.txt", &mut chart) else {
         return;
     };
     let mut argument = [0u8; ARGUMENT];
@@ -28,6 +28,6 @@ fn main(rt: HostRuntime) {
         Err(FillError::NotPresent) => None,
     };
     let mut out = [0u8; MAX_PICTURE];
-    let end = put_picture(&chart[..n], order, &mut out);
+    let end = put_picture(chart, order, &mut out);
     io::write_all(1, &out[..end]);
 }

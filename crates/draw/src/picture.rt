@@ -1,10 +1,9 @@
 // What is printed: a chart's drawing, or why there is none.
-ghost use Rattle.std.specs.Prelude.{◌≡◌, cond, ◌≤◌, length, replicate, option_copied};
+ghost use Rattle.std.specs.Prelude.{◌≡◌, cond, length, replicate, option_copied};
 ghost use Rattle.model.specs.Answers.{answered, status, step_reply};
 ghost use Rattle.text.specs.Read.{read_graph};
-ghost use Rattle.layout.specs.Read.{direction_of};
 ghost use Rattle.put_text.specs.Puts.{Puts};
-ghost use Rattle.draw.specs.Picture.{drawn_text, picture_text, order_path, path_in, words_in, found_by, Few, FoundIs};
+ghost use Rattle.draw.specs.Picture.{drawn_text, picture_text, form_number, order_path, words_in, found_by, Few, FoundIs};
 
 use drawing::{DrawError, draw};
 use model::{Planned, Refusal, Refused, SearchStatus, number};
@@ -27,7 +26,7 @@ pub fn put_picture(chart: &[u8], order: Option<&[u8]>, out: &mut [u8]) -> usize
     ensures { Puts out.old 0 (picture_text chart.now (option_copied order.entry)) result out.new }
 {
     if MAX_BYTES < chart.len() {
-        return put_refused(out, 4);
+        return put_refused(out, number(Refusal::OverLimit));
     }
     let Some(order) = order else {
         return put_drawn(chart, &[], out);
@@ -57,26 +56,16 @@ fn find_path(chart: &[u8], order: &[u8], path: &mut [u32]) -> Result<usize, Refu
     ensures { FoundIs result path.new (order_path chart.now order.now) }
 {
     let read = read_order(order).ok_or(Refusal::Malformed)?;
-    match read.form {
-        Form::Forward => find_in(chart, 0, &read.starts, &read.goals, path),
-        Form::Backward => find_in(chart, 1, &read.starts, &read.goals, path),
-    }
+    let mut words = [0u32; WORDS];
+    cache::open(&mut words, chart, direction(read.form), SLOTS)?;
+    path_found(planner::plan(&mut words, &read.starts, &read.goals, path))
 }
 
-// The path that a search of a direction finds.
-fn find_in(
-    chart: &[u8],
-    direction: u32,
-    starts: &[u32],
-    goals: &[u32],
-    path: &mut [u32],
-) -> Result<usize, Refused>
-    requires { (direction ≤ 1) × (path.old ≡ replicate 2047 0) }
-    ensures { FoundIs result path.new (path_in (direction_of direction) (read_graph chart.now) starts.now goals.now) }
+// The number that `open` takes.
+fn direction(form: Form) -> u32
+    ensures { result ≡ form_number form }
 {
-    let mut words = [0u32; WORDS];
-    cache::open(&mut words, chart, direction, SLOTS)?;
-    path_found(planner::plan(&mut words, starts, goals, path))
+    form as u32
 }
 
 // The path's words, of which there are none if no path was found.

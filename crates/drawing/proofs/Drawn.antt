@@ -5,12 +5,12 @@ use Rattle.std.specs.declared.result.Result.{Result}
 use Rattle.model.specs.declared.Refused.{Refused}
 use Rattle.std.specs.declared.option.Option.{Option}
 use Rattle.std.specs.Prelude.{None, Err, Ok}
-use mathlib.Core.Bool.{Bool, true, false, true≢false}
+use mathlib.Core.Bool.{Bool, true, false, beq, true≢false}
 use mathlib.Core.List.{List, ◌++◌}
 use Prim.Native.Nat.{ℕ, ◌+◌, ◌<◌, ◌≤◌}
 use native.Mathlib.Omega.{arith}
 use borrow.Author.Tests.{lt-ltb, le-ltb}
-use lib.Dec.{eqb, ltb}
+use lib.Dec.{ltb}
 use lib.ListN.{length, get_or, drop, replicate, length-replicate}
 use Rattle.model.specs.Lists.{numbers, joined}
 use Rattle.model.specs.Graph.{Graph, Accepted, vertex_count, edge_count}
@@ -39,16 +39,16 @@ use Rattle.drawing.specs.Puts.{HoldsGraph, held_graph, DrawingHeld}
 
 -- ---- marks that are the same make the same drawing
 
-marked-same : (k : ℕ) (m r : List ℕ) (n : ℕ) → ((v : ℕ) → get_or m v 0 ≡ get_or r v 0) → marked k m n ≡ marked k r n
-marked-same k m r n e = those-same (λ v. eqb (get_or m v 0) k) (λ v. eqb (get_or r v 0) k) (numbers n) (λ v x. ap (λ (b : ℕ). eqb b k) (e v))
+marked-same : (k : Bool) (m r : List Bool) (n : ℕ) → ((v : ℕ) → get_or m v false ≡ get_or r v false) → marked k m n ≡ marked k r n
+marked-same k m r n e = those-same (λ v. beq (get_or m v false) k) (λ v. beq (get_or r v false) k) (numbers n) (λ v x. ap (λ (b : Bool). beq b k) (e v))
 
-drawing-marks : (m r : List ℕ) (g : Graph) (path : List ℕ) → ((v : ℕ) → get_or m v 0 ≡ get_or r v 0) → drawing_by m g path ≡ drawing_by r g path
+drawing-marks : (m r : List Bool) (g : Graph) (path : List ℕ) → ((v : ℕ) → get_or m v false ≡ get_or r v false) → drawing_by m g path ≡ drawing_by r g path
 unfolding drawing_by
 drawing-marks m r g path e =
     ap₂
     (λ (x y : List ℕ). opening
     ++ (joined (drawn_vertex g path) x ++ (apart_text (drawn_vertex g path) y ++ (joined (drawn_edge g path) (numbers (edge_count g)) ++ closing))))
-    (marked-same 1 m r (vertex_count g) e) (marked-same 0 m r (vertex_count g) e)
+    (marked-same true m r (vertex_count g) e) (marked-same false m r (vertex_count g) e)
 
 -- ---- the graph that words hold
 
@@ -59,7 +59,7 @@ module _ (ws path out : List ℕ) (held : HoldsGraph ws) where
   pub held-short : length out < drawing_room (vertices_in ws) (edges_in ws) → DrawingHeld ws path out (Err ShortDrawing) out
   held-short h = sym (ap (λ (b : Bool). draw_if b (held_graph ws) path out) (ap (ltb (length out)) room-is ∙ lt-ltb _ _ h))
 
-  pub held-drawn : (marks : List ℕ) {r : ℕ} {left : List ℕ} → drawing_room (vertices_in ws) (edges_in ws) ≤ length out
+  pub held-drawn : (marks : List Bool) {r : ℕ} {left : List ℕ} → drawing_room (vertices_in ws) (edges_in ws) ≤ length out
       → ReachedIs (read_cache ws).domain.graph marks → Puts out 0 (drawing_by marks (held_graph ws) path) r left → DrawingHeld ws path out (Ok r) left
   unfolding read_cache drawing
   held-drawn marks {r} {left} h is p = (λ i. record { reply = draw_reply (Ok (length-is i)); bytes = bytes-is i })

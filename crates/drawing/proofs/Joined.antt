@@ -1,13 +1,12 @@
 -- Lines put one behind the other, one for each number below n; and vertices that stand apart.
 -- Assumes nothing.
 use mathlib.Core.Path.{◌≡◌, refl, sym, ap, ap₂, ◌∙◌}
-use mathlib.Core.Bool.{Bool, true, false, cond, true≢false, ◌||◌}
+use mathlib.Core.Bool.{Bool, true, false, cond, beq, true≢false, ◌||◌}
 use mathlib.Core.List.{List, [], ◌∷◌, ◌++◌, append-nil, append_assoc}
 use Prim.Native.Nat.{ℕ, zero, suc, ◌+◌, ◌*◌, ◌<◌, ◌≤◌}
 use native.Mathlib.Omega.{arith}
 use native.Mathlib.Decide.{ℕ_discrete}
 use native.Mathlib.Numerals.{add-one}
-use lib.Dec.{eqb}
 use lib.ListN.{length, get_or, take, length-append}
 use Rattle.model.specs.Lists.{numbers, those, keep, joined}
 use Rattle.std.specs.List.{list_any}
@@ -88,13 +87,13 @@ some-snoc true x [] = refl
 some-snoc false x [] = refl
 some-snoc b x (y ∷ ys) = refl
 
--- a 0 stands among the first n marks
-pub apart-among : (marks : List ℕ) (n : ℕ) → n ≤ length marks → list_any (λ m. eqb m 0) (take n marks) ≡ is_some (marked 0 marks n)
+-- one of the first n is not marked
+pub apart-among : (marks : List Bool) (n : ℕ) → n ≤ length marks → list_any (λ m. beq m false) (take n marks) ≡ is_some (marked false marks n)
 unfolding those
 apart-among marks zero h = refl
 apart-among marks (suc n) h =
-    let p = λ (v : ℕ). eqb (get_or marks v 0) 0 in
-    rw (← add-one n) (list_any_more (λ m. eqb m 0) marks n 0 (omega arith))
+    let p = λ (v : ℕ). beq (get_or marks v false) false in
+    rw (← add-one n) (list_any_more (λ m. beq m false) marks n false (omega arith))
     ∙ ap (λ (b : Bool). b || p n) (apart-among marks n (omega arith))
     ∙ sym (ap is_some (ap (those p) (numbers-snoc n) ∙ those-snoc p (numbers n) n) ∙ some-snoc (p n) n (those p (numbers n)))
 
@@ -106,11 +105,11 @@ apart_some : (f : ℕ → List ℕ) (vs : List ℕ) → is_some vs ≡ true → 
 apart_some f [] e = absurd (true≢false (sym e))
 apart_some f (v ∷ vs) e = refl
 
-module _ (ws marks : List ℕ) (bold : List Bool) (some : is_some (marked 0 marks (vertices_in ws)) ≡ true) where
-  pub cluster-some : cluster_text ws marks bold ≡ apart_opening ++ (vertices_text ws marks 0 bold ++ apart_closing)
+module _ (ws : List ℕ) (marks bold : List Bool) (some : is_some (marked false marks (vertices_in ws)) ≡ true) where
+  pub cluster-some : cluster_text ws marks bold ≡ apart_opening ++ (vertices_text ws marks false bold ++ apart_closing)
   cluster-some =
-      apart_some (vertex_of ws bold) (marked 0 marks (vertices_in ws)) some
-      ∙ ap (λ (l : List ℕ). apart_opening ++ (l ++ apart_closing)) (sym (joined-those (vertex_of ws bold) (λ v. eqb (get_or marks v 0) 0) (numbers (vertices_in ws))))
+      apart_some (vertex_of ws bold) (marked false marks (vertices_in ws)) some
+      ∙ ap (λ (l : List ℕ). apart_opening ++ (l ++ apart_closing)) (sym (joined-those (vertex_of ws bold) (λ v. beq (get_or marks v false) false) (numbers (vertices_in ws))))
 
-  pub cluster-length : length (cluster_text ws marks bold) ≡ 80 + length (vertices_text ws marks 0 bold)
-  cluster-length = omega (arith, ap length cluster-some, length-append (vertices_text ws marks 0 bold) apart_closing)
+  pub cluster-length : length (cluster_text ws marks bold) ≡ 80 + length (vertices_text ws marks false bold)
+  cluster-length = omega (arith, ap length cluster-some, length-append (vertices_text ws marks false bold) apart_closing)

@@ -1,30 +1,28 @@
 -- How long the lines of a drawing are.
 -- Assumes nothing.
-use mathlib.Core.Path.{◌≡◌, refl}
-use mathlib.Core.Bool.{Bool, true, false, cond}
+use mathlib.Core.Path.{◌≡◌, refl, ap}
+use mathlib.Core.Bool.{Bool, true, false, cond, beq}
 use mathlib.Core.List.{List, [], ◌∷◌, ◌++◌}
 use Prim.Native.Nat.{ℕ, zero, suc, ◌+◌, ◌/◌, ◌%◌, ◌^◌, ◌<◌, ◌≤◌}
 use native.Mathlib.Omega.{arith}
-use borrow.Author.Tests.{ltb-false, eqb-true}
-use lib.Dec.{eqb, ltb}
+use borrow.Author.Tests.{ltb-false}
+use lib.Dec.{ltb}
 use lib.ListN.{length, get_or, length-append}
-use Rattle.model.specs.Graph.{absent}
 use Rattle.text.specs.Bytes.{bytes}
 use Rattle.text.specs.Print.{decimal, decimal_in, digits_by}
 use Rattle.put_text.specs.Puts.{Puts}
 use Rattle.put_text.proofs.Decimals.{decimal-length}
+use Rattle.std.specs.Prelude.{None, Some}
+use Rattle.std.specs.declared.option.Option.{Option}
 use Rattle.drawing.specs.Drawing.{numbered, initial_label, line_end, vertex_line, edge_line}
 use Rattle.drawing.specs.Puts.{vertex_of, vertex_if, edge_of}
 
 pub numbered-end : (t : List ℕ) (n : ℕ) {at r : ℕ} {out left : List ℕ} → Puts out at (numbered t n) r left → r ≤ at + length t + 10
 numbered-end t n p = omega (arith, p.end, length-append t (decimal n), decimal-length n)
 
-pub initial-length : (c : ℕ) → length (initial_label c) ≤ 18
-initial-length c = go (eqb c absent)
-  where
-    go : (t : Bool) → length (cond t [] (numbered (bytes "\\nstart ") c)) ≤ 18
-    go true = omega arith
-    go false = omega (arith, decimal-length c)
+pub initial-length : (c : Option ℕ) → length (initial_label c) ≤ 18
+initial-length None = omega arith
+initial-length (Some c) = omega (arith, decimal-length c)
 
 -- a number below 10 ^ j has at most j digits
 decimal-in-short : (j k n : ℕ) → n < 10 ^ suc j → length (decimal_in k n) ≤ suc j
@@ -50,7 +48,10 @@ end-length : (bold : Bool) → length (line_end bold) ≤ 16
 end-length true = omega arith
 end-length false = omega arith
 
-vertex-length : (v c : ℕ) (bold : Bool) → v < 10000 → length (vertex_line v c bold) ≤ 64
+pub end-room : (bold : Bool) {t : List ℕ} → t ≡ line_end bold → length t ≤ 16
+end-room bold e = omega (arith, ap length e, end-length bold)
+
+vertex-length : (v : ℕ) (c : Option ℕ) (bold : Bool) → v < 10000 → length (vertex_line v c bold) ≤ 64
 unfolding vertex_line
 vertex-length v c bold h =
     let rest = initial_label c ++ line_end bold in
@@ -74,17 +75,15 @@ edge-length a b c bold =
     )
 
 -- a vertex has a line among those reached or among those apart
-pub vertex-most : (ws marks : List ℕ) (bold : List Bool) (v : ℕ) → v < 10000 → length (vertex_if ws marks 1 bold v) + length (vertex_if ws marks 0 bold v) ≤ 64
-vertex-most ws marks bold v h = go (eqb (get_or marks v 0) 1) refl (eqb (get_or marks v 0) 0) refl
+pub vertex-most : (ws : List ℕ) (marks bold : List Bool) (v : ℕ) → v < 10000 → length (vertex_if ws marks true bold v) + length (vertex_if ws marks false bold v) ≤ 64
+vertex-most ws marks bold v h = go (get_or marks v false)
   where
     few : length (vertex_of ws bold v) ≤ 64
     few = vertex-length v _ _ h
 
-    go : (a : Bool) → eqb (get_or marks v 0) 1 ≡ a → (b : Bool) → eqb (get_or marks v 0) 0 ≡ b → length (cond a (vertex_of ws bold v) []) + length (cond b (vertex_of ws bold v) []) ≤ 64
-    go true e true d = absurd (omega (arith, eqb-true (get_or marks v 0) 1 e, eqb-true (get_or marks v 0) 0 d))
-    go true e false d = omega (arith, few)
-    go false e true d = omega (arith, few)
-    go false e false d = omega arith
+    go : (t : Bool) → length (cond (beq t true) (vertex_of ws bold v) []) + length (cond (beq t false) (vertex_of ws bold v) []) ≤ 64
+    go true = omega (arith, few)
+    go false = omega (arith, few)
 
 pub edge-most : (ws : List ℕ) (bold : List Bool) (e : ℕ) → length (edge_of ws bold e) + 0 ≤ 64
 edge-most ws bold e = let few : length (edge_of ws bold e) ≤ 64 = edge-length _ _ _ _ in omega (arith, few)

@@ -55,8 +55,8 @@ Drawing text path out r left = ◌≡◌ {A = AfterDraw} (record { reply = draw_
 -- ---- what is claimed of the definition: a vertex is drawn with the others exactly if a path leads to it, and else apart
 
 pub record DrawnWhere (g : Graph) (v : ℕ) : Type 0 where
-  pub reached : Memᴰ v (marked 1 (reach_marks g) (vertex_count g)) ↔ Reachable g v
-  pub apart : Memᴰ v (marked 0 (reach_marks g) (vertex_count g)) ↔ (Reachable g v → ⊥)
+  pub reached : Memᴰ v (marked true (reach_marks g) (vertex_count g)) ↔ Reachable g v
+  pub apart : Memᴰ v (marked false (reach_marks g) (vertex_count g)) ↔ (Reachable g v → ⊥)
 
 abbrev pub EachDrawn : Type 0
 EachDrawn = (g : Graph) → Accepted g → (v : ℕ) → v < vertex_count g → DrawnWhere g v

@@ -1,8 +1,11 @@
 -- A graph as a Graphviz text.
 -- Assumes nothing.
-use Rattle.std.specs.Prelude.{Bool, true, false, not, ◌&&◌, ◌||◌, cond, List, [], ◌∷◌, ◌++◌, ℕ, eqb, get_or}
+use Rattle.std.specs.Prelude.{Bool, true, false, not, ◌&&◌, ◌||◌, List, [], ◌∷◌, ◌++◌, ℕ, eqb, get_or, None, Some}
+use mathlib.Core.Bool.{beq}
+use Rattle.std.specs.declared.option.Option.{Option}
 use Rattle.model.specs.Lists.{numbers, those, joined}
 use Rattle.model.specs.Graph.{Graph, vertex_count, edge_count, from, to, cost, absent}
+use Rattle.layout.specs.Read.{cost_if}
 use Rattle.text.specs.Bytes.{bytes}
 use Rattle.text.specs.Print.{decimal}
 use Rattle.reach.specs.Reach.{reach_marks}
@@ -33,11 +36,12 @@ line_end true = bytes "\", style=bold];\n"
 line_end false = bytes "\"];\n"
 
 -- an initial cost stands below the number, in the label: the line is broken there by a backslash and an n
-abbrev pub initial_label : ℕ → List ℕ
-initial_label c = cond (eqb c absent) [] (numbered (bytes "\\nstart ") c)
+abbrev pub initial_label : Option ℕ → List ℕ
+initial_label None = []
+initial_label (Some c) = numbered (bytes "\\nstart ") c
 
 -- `0 [label="0\nstart 5"];`
-unfoldable pub vertex_line : ℕ → ℕ → Bool → List ℕ
+unfoldable pub vertex_line : ℕ → Option ℕ → Bool → List ℕ
 unfolding decimal
 vertex_line v c bold = numbered (bytes "  ") v ++ (numbered (bytes " [label=\"") v ++ (initial_label c ++ line_end bold))
 
@@ -66,23 +70,23 @@ abbrev pub apart_text : (ℕ → List ℕ) → List ℕ → List ℕ
 apart_text line [] = []
 apart_text line (v ∷ vs) = apart_opening ++ (joined line (v ∷ vs) ++ apart_closing)
 
--- of the vertices, those with the mark k
-abbrev pub marked : ℕ → List ℕ → ℕ → List ℕ
-marked k marks n = those (λ v. eqb (get_or marks v 0) k) (numbers n)
+-- of the vertices, those that are marked, or those that are not
+abbrev pub marked : Bool → List Bool → ℕ → List ℕ
+marked k marks n = those (λ v. beq (get_or marks v false) k) (numbers n)
 
 abbrev pub drawn_vertex : Graph → List ℕ → ℕ → List ℕ
-drawn_vertex g path v = vertex_line v (get_or g.initial v absent) (bold_vertex path v)
+drawn_vertex g path v = vertex_line v (cost_if (get_or g.initial v absent)) (bold_vertex path v)
 
 abbrev pub drawn_edge : Graph → List ℕ → ℕ → List ℕ
 drawn_edge g path e = edge_line (from g e) (to g e) (cost g e) (bold_edge path e)
 
--- the vertices marked 1, ascending; those marked 0, apart; the edges by number
-unfoldable pub drawing_by : List ℕ → Graph → List ℕ → List ℕ
+-- the vertices that are marked, ascending; the others, apart; the edges by number
+unfoldable pub drawing_by : List Bool → Graph → List ℕ → List ℕ
 unfolding those joined vertex_line edge_line stands
 drawing_by marks g path =
     opening
-    ++ (joined (drawn_vertex g path) (marked 1 marks (vertex_count g))
-    ++ (apart_text (drawn_vertex g path) (marked 0 marks (vertex_count g)) ++ (joined (drawn_edge g path) (numbers (edge_count g)) ++ closing)))
+    ++ (joined (drawn_vertex g path) (marked true marks (vertex_count g))
+    ++ (apart_text (drawn_vertex g path) (marked false marks (vertex_count g)) ++ (joined (drawn_edge g path) (numbers (edge_count g)) ++ closing)))
 
 -- the drawing of a graph and of the path with these words: "motifs that no run from any start can reach" stand apart
 unfoldable pub drawing : Graph → List ℕ → List ℕ

@@ -10,20 +10,15 @@ pub fn standing(path: &[u32], first: bool) -> [bool; MAX_EDGES]
     ensures { Table first path.now result }
 {
     let mut table = [false; MAX_EDGES];
-    let mut here = first;
-    for word in path {
-        mark(&mut table, here, *word);
-        here = !here;
+    for word in path.iter().skip(usize::from(!first)).step_by(2) {
+        mark(&mut table, *word);
     }
     table
 }
 
-fn mark(table: &mut [bool; MAX_EDGES], here: bool, word: u32)
-    ensures { table.new ≡ with_mark table.old here word }
+fn mark(table: &mut [bool; MAX_EDGES], word: u32)
+    ensures { table.new ≡ with_mark table.old word }
 {
-    if !here {
-        return;
-    }
     let number = word as usize;
     if number < MAX_EDGES {
         table[number] = true;

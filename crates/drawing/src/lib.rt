@@ -5,8 +5,10 @@
 pub mod bold;
 pub mod lines;
 
-ghost use Rattle.std.specs.Prelude.{◌≡◌, ◌+◌, ◌<◌, ◌≤◌, length};
+ghost use Rattle.std.specs.Prelude.{◌≡◌, false, ◌+◌, ◌<◌, ◌≤◌, length};
+ghost use Rattle.std.proofs.Props.{props};
 ghost use Rattle.layout.specs.Layout.{vertices_in, edges_in};
+ghost use Rattle.layout.proofs.StartCosts.{start_once};
 ghost use Rattle.put_text.specs.Puts.{Puts};
 ghost use Rattle.drawing.specs.declared.DrawError.TheVariants.{Chart};
 ghost use Rattle.drawing.specs.Drawing.{marked, drawing_by};
@@ -14,7 +16,7 @@ ghost use Rattle.drawing.specs.Draw.{drawing_room, Drawing};
 ghost use Rattle.drawing.specs.Puts.{HoldsGraph, Room, held_graph, is_some, vertex_if, vertices_text, cluster_text, edge_of, edges_text, DrawingHeld};
 
 use bold::standing;
-use layout::{EDGES, VERTICES, edge_cost, edge_from, edge_to, header, initial_cost};
+use layout::{EDGES, VERTICES, header, initial_cost};
 use lines::{put_edge_line, put_vertex_line};
 use model::Refused;
 use model::limits::{MAX_EDGES, MAX_VERTICES};
@@ -64,109 +66,111 @@ fn draw_held(words: &[u32], path: &[u32], out: &mut [u8]) -> Result<usize, DrawE
 }
 
 // Puts the drawing of the graph that the words hold in front of the bytes lent, and answers how many bytes it has.
-fn put_drawing(out: &mut [u8], words: &[u32], marks: &[u32; MAX_VERTICES], path: &[u32]) -> usize
+fn put_drawing(out: &mut [u8], words: &[u32], marks: &[bool; MAX_VERTICES], path: &[u32]) -> usize
     requires { HoldsGraph words.now × (drawing_room (vertices_in words.now) (edges_in words.now) ≤ length out.old) }
     ensures { Puts out.old 0 (drawing_by marks.now (held_graph words.now) path.now) result out.new }
 {
     let vertices = standing(path, true);
     let edges = standing(path, false);
+    let picture = Picture {
+        words,
+        marks,
+        bold_vertices: &vertices,
+        bold_edges: &edges,
+    };
     let a = put_bytes(
         out,
         0,
         b"digraph chart {\n  rankdir=LR;\n  node [shape=circle];\n",
     );
-    let b = put_vertices(out, a, words, marks, 1, &vertices);
-    let c = put_apart(out, b, words, marks, &vertices);
-    let d = put_edges(out, c, words, &edges);
+    let b = picture.put_vertices(out, a, true);
+    let c = picture.put_apart(out, b);
+    let d = picture.put_edges(out, c);
     put_bytes(out, d, b"}\n")
 }
 
-// The vertices of a mark, ascending.
-fn put_vertices(
-    out: &mut [u8],
-    at: usize,
-    words: &[u32],
-    marks: &[u32; MAX_VERTICES],
-    mark: u32,
-    bold: &[bool; MAX_EDGES],
-) -> usize
-    requires { HoldsGraph words.now × Room out.old at (vertices_text words.now marks.now mark bold.now) }
-    ensures { Puts out.old at (vertices_text words.now marks.now mark bold.now) result out.new }
-{
-    let mut end = at;
-    for v in 0..header(words, VERTICES) {
-        end = put_vertex(out, end, words, marks, mark, bold, v);
-    }
-    end
+// What a drawing is put from: the words that hold the graph, for each vertex whether a run leads to it, and which vertices and edges
+// are bold.
+#[derive(Clone, Copy)]
+struct Picture<'a> {
+    words: &'a [u32],
+    marks: &'a [bool; MAX_VERTICES],
+    bold_vertices: &'a [bool; MAX_EDGES],
+    bold_edges: &'a [bool; MAX_EDGES],
+    ghost graph: { HoldsGraph words.now } by { Prim.hlevel (props, start_once) },
 }
 
-// A vertex's line, or nothing if it has another mark.
-fn put_vertex(
-    out: &mut [u8],
-    at: usize,
-    words: &[u32],
-    marks: &[u32; MAX_VERTICES],
-    mark: u32,
-    bold: &[bool; MAX_EDGES],
-    v: usize,
-) -> usize
-    requires { HoldsGraph words.now × ((v < vertices_in words.now) × (at + 66 ≤ length out.old)) }
-    ensures { Puts out.old at (vertex_if words.now marks.now mark bold.now v) result out.new }
-{
-    if marks[v] != mark {
-        return at;
+impl Picture<'_> {
+    // The vertices of a mark, ascending.
+    fn put_vertices(self, out: &mut [u8], at: usize, mark: bool) -> usize
+        requires { Room out.old at (vertices_text self.words.now self.marks.now mark self.bold_vertices.now) }
+        ensures { let p = self.entry in Puts out.old at (vertices_text p.words.now p.marks.now mark p.bold_vertices.now) result out.new }
+    {
+        let mut end = at;
+        for v in 0..header(self.words, VERTICES) {
+            end = self.put_vertex(out, end, mark, v);
+        }
+        end
     }
-    put_vertex_line(out, at, v as u32, initial_cost(words, v), bold[v])
+
+    // A vertex's line, or nothing if it has another mark.
+    fn put_vertex(self, out: &mut [u8], at: usize, mark: bool, v: usize) -> usize
+        requires { (v < vertices_in self.words.now) × (at + 66 ≤ length out.old) }
+        ensures { let p = self.entry in Puts out.old at (vertex_if p.words.now p.marks.now mark p.bold_vertices.now v) result out.new }
+    {
+        if self.marks[v] != mark {
+            return at;
+        }
+        put_vertex_line(
+            out,
+            at,
+            v as u32,
+            initial_cost(self.words, v),
+            self.bold_vertices[v],
+        )
+    }
+
+    // The vertices that no run leads to stand apart, in a cluster of their own.
+    fn put_apart(self, out: &mut [u8], at: usize) -> usize
+        requires { Room out.old at (cluster_text self.words.now self.marks.now self.bold_vertices.now) }
+        ensures { let p = self.entry in Puts out.old at (cluster_text p.words.now p.marks.now p.bold_vertices.now) result out.new }
+    {
+        if !is_any_apart(self.marks, header(self.words, VERTICES)) {
+            return at;
+        }
+        let a = put_bytes(
+            out,
+            at,
+            b"  subgraph cluster_apart {\n    label=\"no run leads here\";\n    style=dashed;\n",
+        );
+        let b = self.put_vertices(out, a, false);
+        put_bytes(out, b, b"  }\n")
+    }
+
+    // The edges by number.
+    fn put_edges(self, out: &mut [u8], at: usize) -> usize
+        requires { Room out.old at (edges_text self.words.now self.bold_edges.now) }
+        ensures { Puts out.old at (edges_text self.entry.words.now self.entry.bold_edges.now) result out.new }
+    {
+        let mut end = at;
+        for e in 0..header(self.words, EDGES) {
+            end = self.put_edge(out, end, e);
+        }
+        end
+    }
+
+    fn put_edge(self, out: &mut [u8], at: usize, e: usize) -> usize
+        requires { (e < edges_in self.words.now) × (at + 66 ≤ length out.old) }
+        ensures { Puts out.old at (edge_of self.entry.words.now self.entry.bold_edges.now e) result out.new }
+    {
+        let edge = layout::edge_of(self.words, header(self.words, VERTICES), e);
+        put_edge_line(out, at, edge, self.bold_edges[e])
+    }
 }
 
-// The vertices that no run leads to stand apart, in a cluster of their own.
-fn put_apart(
-    out: &mut [u8],
-    at: usize,
-    words: &[u32],
-    marks: &[u32; MAX_VERTICES],
-    bold: &[bool; MAX_EDGES],
-) -> usize
-    requires { HoldsGraph words.now × Room out.old at (cluster_text words.now marks.now bold.now) }
-    ensures { Puts out.old at (cluster_text words.now marks.now bold.now) result out.new }
-{
-    if !is_any_apart(marks, header(words, VERTICES)) {
-        return at;
-    }
-    let a = put_bytes(
-        out,
-        at,
-        b"  subgraph cluster_apart {\n    label=\"no run leads here\";\n    style=dashed;\n",
-    );
-    let b = put_vertices(out, a, words, marks, 0, bold);
-    put_bytes(out, b, b"  }\n")
-}
-
-fn is_any_apart(marks: &[u32; MAX_VERTICES], vertices: usize) -> bool
+fn is_any_apart(marks: &[bool; MAX_VERTICES], vertices: usize) -> bool
     requires { vertices ≤ 1024 }
-    ensures { result ≡ is_some (marked 0 marks.now vertices) }
+    ensures { result ≡ is_some (marked false marks.now vertices) }
 {
-    marks[..vertices].contains(&0)
-}
-
-// The edges by number.
-fn put_edges(out: &mut [u8], at: usize, words: &[u32], bold: &[bool; MAX_EDGES]) -> usize
-    requires { HoldsGraph words.now × Room out.old at (edges_text words.now bold.now) }
-    ensures { Puts out.old at (edges_text words.now bold.now) result out.new }
-{
-    let mut end = at;
-    for e in 0..header(words, EDGES) {
-        end = put_edge(out, end, words, bold, e);
-    }
-    end
-}
-
-fn put_edge(out: &mut [u8], at: usize, words: &[u32], bold: &[bool; MAX_EDGES], e: usize) -> usize
-    requires { HoldsGraph words.now × ((e < edges_in words.now) × (at + 66 ≤ length out.old)) }
-    ensures { Puts out.old at (edge_of words.now bold.now e) result out.new }
-{
-    let vertices = header(words, VERTICES);
-    let from = edge_from(words, vertices, e);
-    let to = edge_to(words, vertices, e);
-    put_edge_line(out, at, from, to, edge_cost(words, vertices, e), bold[e])
+    marks[..vertices].contains(&false)
 }

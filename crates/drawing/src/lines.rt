@@ -1,29 +1,35 @@
 // The lines of a drawing, each put from a place on.
-ghost use Rattle.std.specs.Prelude.{◌+◌, ◌≤◌, length};
+ghost use Rattle.std.specs.Prelude.{◌≡◌, ◌+◌, ◌≤◌, length};
 ghost use Rattle.put_text.specs.Puts.{Puts};
 ghost use Rattle.drawing.specs.Drawing.{numbered, line_end, initial_label, vertex_line, edge_line};
 
-use layout::ABSENT;
+use layout::Edge;
 use put_text::{put_bytes, put_word};
 
-pub fn put_vertex_line(out: &mut [u8], at: usize, vertex: u32, initial: u32, bold: bool) -> usize
+pub fn put_vertex_line(
+    out: &mut [u8],
+    at: usize,
+    vertex: u32,
+    initial: Option<u32>,
+    bold: bool,
+) -> usize
     requires { at + 66 ≤ length out.old }
     ensures { Puts out.old at (vertex_line vertex initial bold) result out.new }
 {
     let a = put_numbered(out, at, b"  ", vertex);
     let b = put_numbered(out, a, b" [label=\"", vertex);
     let c = put_initial_label(out, b, initial);
-    put_line_end(out, c, bold)
+    put_bytes(out, c, line_end(bold))
 }
 
-pub fn put_edge_line(out: &mut [u8], at: usize, from: u32, to: u32, cost: u32, bold: bool) -> usize
+pub fn put_edge_line(out: &mut [u8], at: usize, edge: Edge, bold: bool) -> usize
     requires { at + 66 ≤ length out.old }
-    ensures { Puts out.old at (edge_line from to cost bold) result out.new }
+    ensures { Puts out.old at (edge_line edge.from edge.to edge.cost bold) result out.new }
 {
-    let a = put_numbered(out, at, b"  ", from);
-    let b = put_numbered(out, a, b" -> ", to);
-    let c = put_numbered(out, b, b" [label=\"", cost);
-    put_line_end(out, c, bold)
+    let a = put_numbered(out, at, b"  ", edge.from);
+    let b = put_numbered(out, a, b" -> ", edge.to);
+    let c = put_numbered(out, b, b" [label=\"", edge.cost);
+    put_bytes(out, c, line_end(bold))
 }
 
 // A text and a number.
@@ -36,22 +42,22 @@ fn put_numbered(out: &mut [u8], at: usize, text: &[u8], word: u32) -> usize
 }
 
 // Nothing for a vertex that has no initial cost.
-fn put_initial_label(out: &mut [u8], at: usize, initial: u32) -> usize
+fn put_initial_label(out: &mut [u8], at: usize, initial: Option<u32>) -> usize
     requires { at + 18 ≤ length out.old }
     ensures { Puts out.old at (initial_label initial) result out.new }
 {
-    if initial == ABSENT {
+    let Some(cost) = initial else {
         return at;
-    }
-    put_numbered(out, at, b"\\nstart ", initial)
+    };
+    put_numbered(out, at, b"\\nstart ", cost)
 }
 
-fn put_line_end(out: &mut [u8], at: usize, bold: bool) -> usize
-    requires { at + 16 ≤ length out.old }
-    ensures { Puts out.old at (line_end bold) result out.new }
+fn line_end(bold: bool) -> &'static [u8]
+    ensures { result.now ≡ line_end bold }
 {
     if bold {
-        return put_bytes(out, at, b"\", style=bold];\n");
+        b"\", style=bold];\n"
+    } else {
+        b"\"];\n"
     }
-    put_bytes(out, at, b"\"];\n")
 }

@@ -14,9 +14,10 @@ ghost use Rattle.entry_turns.specs.Turn.{CanStep, Steps, tree_at, best_entry, Ca
 
 use grow::Grown;
 use layout::slots::slot_words;
-use memory::solution_cost;
+use memory::held_node::HeldNode;
 use model::{BestSolution, Search, TreeMemory};
-use tree::partial_keyed_closed_set::{cheapest_goal, closed_keys_len};
+use sound::known::TreeInUse;
+use tree::partial_keyed_closed_set::PartialKeyedClosedSet;
 
 // The search after some turns, and the tickets taken in them.
 #[derive(Clone, Copy)]
@@ -75,7 +76,8 @@ pub fn step_trees(words: &mut [u32], search: Search) -> Turned
     }
 }
 
-// The entry that found the best; with no best, any.
+// The entry that found the best; with no best, any. No option: it says where to read in a record, and who reads asks for the best too; the
+// record itself is handed to no more functions, since each copies it.
 pub fn best_entry(best: Option<BestSolution>) -> usize
     ensures { result ≡ best_entry best }
 {
@@ -87,8 +89,8 @@ fn cost_bound(words: &[u32], best: Option<BestSolution>, slot: usize) -> Option<
     requires { CanBound words.now best slot }
     ensures { result ≡ bound_in (read_cache words.now).domain (tree_at words.now slot).nodes best }
 {
-    let held = best?;
-    Some(solution_cost(words, slot, held.node))
+    let node = best?.node;
+    Some(HeldNode { words, slot, node }.solution_cost())
 }
 
 // An entry's turn: a closed goal is looked up, and with no find the tree is grown. After a find by lookup nothing is remembered.
@@ -132,20 +134,20 @@ fn look_up_in(
     requires { CanLookUp edges tree.now goals.now }
     ensures { looks_up (read_cache words.now).domain words.now edges tree.now goals.now known result }
 {
-    if is_known(tree, edges, known) {
+    let closed = PartialKeyedClosedSet { tree, edges };
+    if is_known(closed, known) {
         return None;
     }
-    cheapest_goal(words, tree, edges, goals)
+    closed.cheapest_goal(words, goals)
 }
 
 // Whether the closed count is the remembered one. Where none is remembered nothing is counted.
-fn is_known(tree: &[u32], edges: usize, known: Option<u32>) -> bool
-    requires { Formed edges tree.now }
-    ensures { KnownIs edges tree.now known result }
+fn is_known(closed: PartialKeyedClosedSet<'_>, known: Option<u32>) -> bool
+    ensures { KnownIs closed.entry.edges closed.entry.tree.now known result }
 {
     match known {
         None => false,
-        Some(k) => closed_keys_len(tree, edges) == k,
+        Some(k) => closed.closed_keys_len() == k,
     }
 }
 
@@ -155,18 +157,18 @@ fn grow_tree(words: &mut [u32], slot: usize, goals: &[u32], bound: Option<u64>) 
     ensures { Turns words.old slot (grown (growth_of words.old slot goals.now bound) bound) result words.new }
 {
     let growth = grow::grow(words, slot, goals, bound);
-    remember(words, slot, growth, bound)
+    remember(TreeInUse { words, slot }, growth, bound)
 }
 
 // The closed count is remembered, and a queue with a ticket under the bound keeps the search unfinished.
-fn remember(words: &[u32], slot: usize, growth: Grown, bound: Option<u64>) -> Outcome
-    requires { InUse words.now slot }
-    ensures { Remembers (tree_at words.now slot) growth bound result }
+fn remember(used: TreeInUse, growth: Grown, bound: Option<u64>) -> Outcome
+    ensures { Remembers (tree_at used.entry.words.now used.entry.slot) growth bound result }
 {
-    let edges = layout::header(words, layout::EDGES);
-    let tree = slot_words(words, slot);
+    let edges = used.edges();
+    let tree = used.own_words();
+    let closed = PartialKeyedClosedSet { tree, edges };
     Outcome {
-        known: Some(closed_keys_len(tree, edges)),
+        known: Some(closed.closed_keys_len()),
         find: growth.solution,
         more: has_ticket_under(tree, edges, bound),
         tickets: growth.tickets,
@@ -190,9 +192,10 @@ fn judge(words: &[u32], memory: TreeMemory, find: Option<u32>, bound: Option<u64
     requires { CanRecord words.now memory find }
     ensures { result ≡ found_of words.now memory find bound }
 {
+    let slot = memory.tree as usize;
     let node = find?;
-    let cost = solution_cost(words, memory.tree as usize, node);
-    if is_dearer(words, memory.tree as usize, cost, memory.solution) {
+    let cost = HeldNode { words, slot, node }.solution_cost();
+    if is_dearer(words, slot, cost, memory.solution) {
         return None;
     }
     Some(Find {
@@ -208,7 +211,7 @@ fn is_dearer(words: &[u32], slot: usize, cost: u64, held: Option<u32>) -> bool
 {
     match held {
         None => false,
-        Some(node) => solution_cost(words, slot, node) < cost,
+        Some(node) => HeldNode { words, slot, node }.solution_cost() < cost,
     }
 }
 

@@ -50,9 +50,6 @@ module _ (l ys : List ℕ) (e : ℕ) (h : e ≤ length l) (n : length ys ≡ len
   same : length ys ≡ e - 0
   same = n ∙ mid_len 0 e l h
 
-  pub front-room : e ≤ length (put_mid 0 (e - 0) l ys)
-  front-room = rw (put-length l ys 0 e (omega arith) h same) h
-
   pub front-put : mid_of 0 (e - 0) (put_mid 0 (e - 0) l ys) ≡ ys
   front-put = mid-put l ys 0 e (omega arith) h same
 
@@ -69,6 +66,5 @@ module _ (n e : ℕ) (h : e ≤ n) where
   pub zeros-length : length (mid_of 0 (e - 0) (replicate {A = ℕ} n 0)) ≡ e
   zeros-length = mid_len 0 e (replicate n 0) zeros-fit ∙ omega arith
 
-  pub zeros-part : mid_of 0 (e - 0) (replicate {A = ℕ} n 0) ≡ replicate (length (mid_of 0 (e - 0) (replicate {A = ℕ} n 0))) 0
-  zeros-part =
-      take-replicate (e - 0) n 0 (omega arith) ∙ ap (λ (k : ℕ). replicate k 0) (sym (mid_len 0 e (replicate n 0) zeros-fit))
+  pub zeros-part : mid_of 0 (e - 0) (replicate {A = ℕ} n 0) ≡ replicate e 0
+  zeros-part = take-replicate (e - 0) n 0 (omega arith) ∙ ap (λ (k : ℕ). replicate k 0) (omega arith)

@@ -50,10 +50,13 @@ module _ {s : Slot} {ws : List ℕ} {n : ℕ} (h : CanVisit s ws n) where
   pub node-within : {t : List ℕ} {i : ℕ} → t ≡ slot_words (vertices_in ws) (edges_in ws) s.number ws → i ≡ n → NodeFits (length t) i
   node-within e at = omega (arith, at, ap length (ready_words h.ready e), node-fits h.ready.formed h.used)
 
-  -- v: the vertex read of them
-  module _ {t : List ℕ} (e : t ≡ slot_words (vertices_in ws) (edges_in ws) s.number ws) {i v : ℕ} (at : i ≡ n) (read : v ≡ vertex_in ws t i) where
+  -- u: the same in the node's hands; v: the vertex read of them
+  module _ {t u : List ℕ} (e : t ≡ slot_words (vertices_in ws) (edges_in ws) s.number ws) (own : u ≡ t) {i v : ℕ} (at : i ≡ n) (read : v ≡ vertex_in ws u i) where
+    own-words : u ≡ words_in s ws
+    own-words = own ∙ ready_words h.ready e
+
     vertex-is : v ≡ it.vertex
-    vertex-is = read ∙ ap₂ (λ (x : List ℕ) (k : ℕ). vertex_in ws x k) (ready_words h.ready e) at ∙ sym (ap (λ (x : Node). x.vertex) node-words)
+    vertex-is = read ∙ ap₂ (λ (x : List ℕ) (k : ℕ). vertex_in ws x k) own-words at ∙ sym (ap (λ (x : Node). x.vertex) node-words)
 
     pub can-close : CanClose s.edges lent v n
     can-close = subst (λ (t : List ℕ). CanClose s.edges t v n) (sym part) (record {
@@ -83,9 +86,9 @@ module _ {s : Slot} {ws : List ℕ} {n : ℕ} (h : CanVisit s ws n) where
           })
 
       -- k: the cost read of the slot's words
-      module _ (accepted : r ≡ Accepted) (len : length ys ≡ length lent) {j k : ℕ} (again : j ≡ n) (reads : k ≡ cost_in t j) where
+      module _ (accepted : r ≡ Accepted) (len : length ys ≡ length lent) {k : ℕ} (reads : k ≡ cost_in u i) where
         cost-is : k ≡ it.cost
-        cost-is = reads ∙ ap₂ (λ (x : List ℕ) (i : ℕ). cost_in x i) (ready_words h.ready e) again ∙ sym (ap (λ (x : Node). x.cost) node-words)
+        cost-is = reads ∙ ap₂ (λ (x : List ℕ) (i : ℕ). cost_in x i) own-words at ∙ sym (ap (λ (x : Node). x.cost) node-words)
 
         closes : Closes s.edges lent ys v n
         closes = rw accepted at closing

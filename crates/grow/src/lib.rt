@@ -12,9 +12,9 @@ ghost use Rattle.queue.specs.Queue.{figures};
 ghost use Rattle.grow.specs.Grow.{Grew, SlotHolds, CanPushChoice, CanPushChoices, CanVisit, Visits, GoesOn};
 
 use edges::{Placed, next_edge};
-use layout::GraphSize;
 use layout::lists::contains;
 use layout::slots::{Slot, slot_of, slot_words};
+use layout::{GraphSize, edge_of, node_of};
 use tree::Node;
 use tree::partial_keyed_closed_set::{CloseResult, close};
 
@@ -28,7 +28,7 @@ pub struct Grown {
     pub solution: Option<u32>,
 }
 
-// Whether the growing goes on after a ticket.
+// Whether the growing goes on after a ticket. By name: `ControlFlow` would say no more, of a find that the caller holds already.
 #[derive(Clone, Copy)]
 pub enum Next {
     On,
@@ -83,9 +83,9 @@ fn visit(words: &mut [u32], s: Slot, node: u32, goals: &[u32], bound: Option<u64
     requires { CanVisit s words.old node }
     ensures { Visits s words.old words.new node goals.now bound result }
 {
-    let tree = slot_words(words, s.number);
-    let vertex = layout::node_vertex(words, tree, node as usize);
-    let cost = layout::node_cost(tree, node as usize);
+    let taken = node_of(slot_words(words, s.number), node as usize);
+    let vertex = taken.vertex(words);
+    let cost = taken.cost();
     let Slot { at, end, .. } = s;
     match close(&mut words[at..end], s.edges, vertex as usize, node) {
         CloseResult::Rejected => {
@@ -122,16 +122,16 @@ fn push_choices(words: &mut [u32], s: Slot, node: u32, vertex: u32, cost: u32)
 }
 
 // Queues an edge, by its number.
-fn push_choice(words: &mut [u32], s: Slot, node: u32, cost: u32, edge: u32)
-    requires { CanPushChoice s words.old cost edge }
-    ensures { SlotHolds s words.old words.new (push_node (tree_at s words.old) (child (domain_at s words.old) node (figures cost) edge)) }
+fn push_choice(words: &mut [u32], s: Slot, node: u32, cost: u32, number: u32)
+    requires { CanPushChoice s words.old cost number }
+    ensures { SlotHolds s words.old words.new (push_node (tree_at s words.old) (child (domain_at s words.old) node (figures cost) number)) }
 {
-    let number = edge as usize;
+    let edge = edge_of(words, s.vertices, number as usize);
     let child = Node {
-        vertex: layout::edge_to(words, s.vertices, number),
-        cost: cost + layout::edge_cost(words, s.vertices, number),
+        vertex: edge.to,
+        cost: cost + edge.cost,
         parent: node,
-        edge,
+        edge: number,
     };
     let Slot { at, end, .. } = s;
     tree::push_node(&mut words[at..end], s.edges, child);

@@ -179,20 +179,8 @@ pub record Sized (m l : ℕ) : Type 0 where
 abbrev pub NodeFits : ℕ → ℕ → Type 0
 NodeFits n k = node_end k ≤ n
 
--- n words hold the word k of node i
-pub record NodeWord (n i k : ℕ) : Type 0 where
-  pub word : k < node_size
-  pub within : node_at i + k < n
-
 -- n words hold edge e
 pub record EdgeFits (n m e : ℕ) : Type 0 where
   pub vertices : m ≤ vertex_limit
   pub edge : e < edge_limit
   pub within : edge_at m e + edge_size ≤ n
-
--- n words hold the word k of edge e
-pub record EdgeWord (n m e k : ℕ) : Type 0 where
-  pub vertices : m ≤ vertex_limit
-  pub edge : e < edge_limit
-  pub word : k < edge_size
-  pub within : edge_at m e + k < n

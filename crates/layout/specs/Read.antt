@@ -1,8 +1,9 @@
 -- The cache that words hold.
 -- Assumes nothing.
-use Rattle.std.specs.Prelude.{List, [], ◌∷◌, map, ℕ, zero, suc, get_or, drop}
+use Rattle.std.specs.Prelude.{cond, List, [], ◌∷◌, map, ℕ, zero, suc, eqb, get_or, drop, None, Some}
+use Rattle.std.specs.declared.option.Option.{Option}
 use Rattle.model.specs.Lists.{numbers, those, mem}
-use Rattle.model.specs.Graph.{Edge, Graph, Direction, forward, backward, Domain}
+use Rattle.model.specs.Graph.{Edge, Graph, Direction, forward, backward, Domain, absent}
 use Rattle.model.specs.Tree.{Node, Tree}
 use Rattle.model.specs.Calls.{Cache}
 use Rattle.layout.specs.Layout.{direction_in, vertices_in, edges_in, slots_in, trees_in, start_in, used_in, queued_in, initial_at, edges_at, edge_size, edge_to_at, edge_cost_at, vertex_in, cost_in, parent_in, edge_in, queue_at, closed_words_at, tree_words, slot_at, part}
@@ -11,6 +12,10 @@ use Rattle.layout.specs.Layout.{direction_in, vertices_in, edges_in, slots_in, t
 abbrev pub direction_of : ℕ → Direction
 direction_of zero = forward
 direction_of (suc n) = backward
+
+-- the cost that a word says: "4294967295 for `-`"
+abbrev pub cost_if : ℕ → Option ℕ
+cost_if c = cond (eqb c absent) None (Some c)
 
 -- l edges, one after the other
 abbrev pub read_edges : ℕ → List ℕ → List Edge

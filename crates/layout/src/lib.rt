@@ -9,8 +9,8 @@ pub mod slots;
 ghost use Rattle.std.specs.Prelude.{◌≡◌, ◌+◌, ◌*◌, ◌^◌, ◌<◌, ◌≤◌, length, get_or};
 ghost use Rattle.model.specs.Limits.{vertex_limit, edge_limit, slot_limit};
 ghost use Rattle.model.specs.Graph.{root_cost};
-ghost use Rattle.layout.specs.Read.{direction_of};
-ghost use Rattle.layout.specs.Layout.{direction_in, initial_in, place_in, vertex_in, cost_in, parent_in, edge_in, from_in, to_in, edge_cost_in, NodeFits, EdgeFits, vertices_in, edges_in, header_words, initial_at, edges_at, edge_at, places_at, numbers_at, slots_at, node_at, queue_at, closed_words_at, tree_words, slot_at, needed, Sized, EdgeWord, NodeWord};
+ghost use Rattle.layout.specs.Read.{direction_of, cost_if};
+ghost use Rattle.layout.specs.Layout.{direction_in, initial_in, place_in, vertex_in, cost_in, parent_in, edge_in, from_in, to_in, edge_cost_in, NodeFits, EdgeFits, vertices_in, edges_in, header_words, initial_at, edges_at, edge_at, places_at, numbers_at, slots_at, node_size, node_at, queue_at, closed_words_at, tree_words, slot_at, needed, Sized};
 
 // No initial cost; also the parent and the edge of a root. One word of a cache says it, which has no room for an Option.
 pub const ABSENT: u32 = 4294967295;
@@ -165,88 +165,92 @@ pub fn header(words: &[u32], place: usize) -> usize
     words[place] as usize
 }
 
-// The initial cost of a vertex, 4294967295 for none.
-pub fn initial_cost(words: &[u32], vertex: usize) -> u32
+// The initial cost of a vertex, if it has one.
+pub fn initial_cost(words: &[u32], vertex: usize) -> Option<u32>
     requires { initial_at + vertex < length words.now }
-    ensures { result ≡ initial_in words.now vertex }
+    ensures { result ≡ cost_if (initial_in words.now vertex) }
 {
-    words[INITIAL_AT + vertex]
+    let cost = words[INITIAL_AT + vertex];
+    (cost != ABSENT).then_some(cost)
 }
 
 // The cost of a root: backward, initial costs are not looked at.
-pub fn root_cost(words: &[u32], vertex: usize) -> u32
+pub fn root_cost(words: &[u32], vertex: usize) -> Option<u32>
     requires { initial_at + vertex < length words.now }
-    ensures { result ≡ root_cost (direction_of (direction_in words.now)) (initial_in words.now vertex) }
+    ensures { result ≡ cost_if (root_cost (direction_of (direction_in words.now)) (initial_in words.now vertex)) }
 {
     if words[DIRECTION] == 0 {
         return initial_cost(words, vertex);
     }
-    0
-}
-
-// A word of an edge, by its place among the edge's words.
-fn edge_word(words: &[u32], vertices: usize, edge: usize, place: usize) -> u32
-    requires { EdgeWord (length words.now) vertices edge place }
-    ensures { result ≡ get_or words.now (edge_at vertices edge + place) 0 }
-{
-    words[edge_at(vertices, edge) + place]
+    Some(0)
 }
 
 // What an edge says.
-pub fn edge_from(words: &[u32], vertices: usize, edge: usize) -> u32
-    requires { EdgeFits (length words.now) vertices edge }
-    ensures { result ≡ from_in vertices words.now edge }
-{
-    edge_word(words, vertices, edge, FROM)
+#[derive(Clone, Copy)]
+pub struct Edge {
+    pub from: u32,
+    pub to: u32,
+    pub cost: u32,
 }
 
-pub fn edge_to(words: &[u32], vertices: usize, edge: usize) -> u32
+pub fn edge_of(words: &[u32], vertices: usize, edge: usize) -> Edge
     requires { EdgeFits (length words.now) vertices edge }
-    ensures { result ≡ to_in vertices words.now edge }
+    ensures { (result.from ≡ from_in vertices words.now edge) × ((result.to ≡ to_in vertices words.now edge) × (result.cost ≡ edge_cost_in vertices words.now edge)) }
 {
-    edge_word(words, vertices, edge, TO)
+    let at = edge_at(vertices, edge);
+    Edge {
+        from: words[at + FROM],
+        to: words[at + TO],
+        cost: words[at + COST],
+    }
 }
 
-pub fn edge_cost(words: &[u32], vertices: usize, edge: usize) -> u32
-    requires { EdgeFits (length words.now) vertices edge }
-    ensures { result ≡ edge_cost_in vertices words.now edge }
-{
-    edge_word(words, vertices, edge, COST)
+// A node of a tree, by its number; `tree` has the tree's own words.
+#[derive(Clone, Copy)]
+pub struct TreeNode<'a> {
+    pub tree: &'a [u32],
+    pub number: usize,
+    pub ghost fits: { NodeFits (length tree.now) number },
 }
 
-// A word of a node, by its place among the node's words; `tree` has a tree's own words.
-fn node_word(tree: &[u32], node: usize, place: usize) -> u32
-    requires { NodeWord (length tree.now) node place }
-    ensures { result ≡ get_or tree.now (node_at node + place) 0 }
+pub fn node_of<'a>(tree: &'a [u32], number: usize) -> TreeNode<'a>
+    requires { NodeFits (length tree.now) number }
+    ensures { (result.tree.now ≡ tree.now) × (result.number ≡ number) }
 {
-    tree[node_at(node) + place]
+    TreeNode { tree, number }
 }
 
 // What a node says. Its vertex is read of the cache's words and the tree's, the rest of the tree's own words.
-pub fn node_vertex(words: &[u32], tree: &[u32], node: usize) -> u32
-    requires { NodeFits (length tree.now) node }
-    ensures { result ≡ vertex_in words.now tree.now node }
-{
-    node_word(tree, node, NODE_VERTEX)
-}
+impl TreeNode<'_> {
+    pub fn vertex(self, words: &[u32]) -> u32
+        ensures { result ≡ vertex_in words.now self.entry.tree.now self.entry.number }
+    {
+        self.word(NODE_VERTEX)
+    }
 
-pub fn node_cost(tree: &[u32], node: usize) -> u32
-    requires { NodeFits (length tree.now) node }
-    ensures { result ≡ cost_in tree.now node }
-{
-    node_word(tree, node, NODE_COST)
-}
+    pub fn cost(self) -> u32
+        ensures { result ≡ cost_in self.entry.tree.now self.entry.number }
+    {
+        self.word(NODE_COST)
+    }
 
-pub fn node_parent(tree: &[u32], node: usize) -> u32
-    requires { NodeFits (length tree.now) node }
-    ensures { result ≡ parent_in tree.now node }
-{
-    node_word(tree, node, NODE_PARENT)
-}
+    pub fn parent(self) -> u32
+        ensures { result ≡ parent_in self.entry.tree.now self.entry.number }
+    {
+        self.word(NODE_PARENT)
+    }
 
-pub fn node_edge(tree: &[u32], node: usize) -> u32
-    requires { NodeFits (length tree.now) node }
-    ensures { result ≡ edge_in tree.now node }
-{
-    node_word(tree, node, NODE_EDGE)
+    pub fn edge(self) -> u32
+        ensures { result ≡ edge_in self.entry.tree.now self.entry.number }
+    {
+        self.word(NODE_EDGE)
+    }
+
+    // One of its words, by the place among them.
+    fn word(self, place: usize) -> u32
+        requires { place < node_size }
+        ensures { result ≡ get_or self.entry.tree.now (node_at self.entry.number + place) 0 }
+    {
+        self.tree[node_at(self.number) + place]
+    }
 }

@@ -23,7 +23,7 @@ struct Sample {
     cost: u32,
 }
 
-// What is asked for with a text, and how many words are lent.
+// What is asked for with a text, its direction by the number that `open` takes, and how many words are lent.
 #[derive(Clone, Copy)]
 struct Opening {
     direction: u32,
@@ -74,11 +74,11 @@ fn try_slots(rt: &impl Print, sample: Sample) -> io::Result<()> {
 }
 
 fn try_open(rt: &impl Print, sample: Sample, opening: Opening) -> io::Result<()> {
-    let mut text = [0u8; 60000];
-    let n = put_sample(&mut text, sample);
+    let mut space = [0u8; 60000];
+    let text = put_sample(&mut space, sample);
     let mut words = [7u32; 24000];
     let lent = &mut words[..opening.lent];
-    let opened = cache::open(lent, &text[..n], opening.direction, opening.slots);
+    let opened = cache::open(lent, text, opening.direction, opening.slots);
     print!(rt; "{sample} {opening} ")?;
     print_opened(rt, opened)?;
     println!(rt; " {} {}", changed(&words), sum(&words))
@@ -157,11 +157,11 @@ impl fmt::Display for Opening {
 
 // ---- the text
 
-fn put_sample(text: &mut [u8], sample: Sample) -> usize
-    ensures { result ≤ length text.new }
-{
-    let at = put_vertices(text, sample);
-    put_edges(text, at, sample)
+// The part of the space that it fills.
+fn put_sample<'a>(space: &'a mut [u8], sample: Sample) -> &'a [u8] {
+    let at = put_vertices(space, sample);
+    let end = put_edges(space, at, sample);
+    &space[..end]
 }
 
 fn put_vertices(text: &mut [u8], sample: Sample) -> usize

@@ -52,20 +52,20 @@ module _ (ws gs : List ℕ) (e : TreeMemory) {u : ℕ} (z : u ≡ trees_in ws) w
     pub entry-solved : not k ≡ false → {n : ℕ} {r : Bool} → e.solution ≡ Some n → r ≡ closes_goal gs (tree (read_cache ws).trees e.tree) n → r ≡ allb tests
     entry-solved f o c = entry-last f o c
 
--- ---- a node that is to be the best; a: whether it closes a goal
+-- ---- a node that is to be the best, of the tree in slot i; o: what its entry holds, a: whether it closes a goal
 
-module _ (ws gs : List ℕ) (e : TreeMemory) (n : ℕ) (least : Option ℕ) (x : Bool) {a : Bool} (closes : a ≡ closes_goal gs (tree (read_cache ws).trees e.tree) n) where
+module _ (ws gs : List ℕ) (i : ℕ) (o : Option ℕ) (n : ℕ) (least : Option ℕ) (x : Bool) {a : Bool} (closes : a ≡ closes_goal gs (tree (read_cache ws).trees i) n) where
   abbrev three : List Bool
-  three = best_node_tests (read_cache ws).domain (read_cache ws).trees gs e n least x
+  three = best_node_tests (read_cache ws).domain (tree (read_cache ws).trees i) gs o n least x
 
   pub best-elsewhere : a ≡ false → a ≡ allb three
   best-elsewhere f = f ∙ sym (all-fails three 0 (sym closes ∙ f))
 
-  pub best-has-node : InUse ws e.tree → a ≡ true → HasNode ws e.tree n
+  pub best-has-node : InUse ws i → a ≡ true → HasNode ws i n
   best-has-node u f = record { used = u; node = closes-node u.sound gs (omega (arith, u.slot, trees-length ws)) n (sym closes ∙ f) }
 
   -- g: whether it costs the least
-  module _ (closed : a ≡ true) {k : ℕ} {g : Bool} (cost : k ≡ solution_cost (read_cache ws).domain (tree (read_cache ws).trees e.tree).nodes n)
+  module _ (closed : a ≡ true) {k : ℕ} {g : Bool} (cost : k ≡ solution_cost (read_cache ws).domain (tree (read_cache ws).trees i).nodes n)
       (same : g ≡ option_eq eqb (Some k) least) where
     costs : g ≡ get_or three 1 true
     costs = same ∙ same-is (Some k) least ∙ ap (λ (c : ℕ). same_cost (Some c) least) cost
@@ -73,11 +73,11 @@ module _ (ws gs : List ℕ) (e : TreeMemory) (n : ℕ) (least : Option ℕ) (x :
     pub best-costs-other : g ≡ false → g ≡ allb three
     best-costs-other f = f ∙ sym (all-fails three 1 (sym costs ∙ f))
 
-    best-last : g ≡ true → (not x || is_held e.solution) ≡ allb three
+    best-last : g ≡ true → (not x || is_held o) ≡ allb three
     best-last f = read-last {cs = three} refl 2 refl (sym closes ∙ closed) (sym costs ∙ f)
 
     pub best-unfinished : g ≡ true → not x ≡ true → not x ≡ allb three
-    best-unfinished f y = y ∙ sym (ap (λ (b : Bool). b || is_held e.solution) y) ∙ best-last f
+    best-unfinished f y = y ∙ sym (ap (λ (b : Bool). b || is_held o) y) ∙ best-last f
 
-    pub best-finished : g ≡ true → not x ≡ false → {r : Bool} → r ≡ is_some e.solution → r ≡ allb three
-    best-finished f y h = h ∙ held-is e.solution ∙ sym (ap (λ (b : Bool). b || is_held e.solution) y) ∙ best-last f
+    pub best-finished : g ≡ true → not x ≡ false → {r : Bool} → r ≡ is_some o → r ≡ allb three
+    best-finished f y h = h ∙ held-is o ∙ sym (ap (λ (b : Bool). b || is_held o) y) ∙ best-last f

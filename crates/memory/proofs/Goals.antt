@@ -1,6 +1,6 @@
 -- Whether a node is the closed node of a goal, test by test.
 -- Assumes nothing.
-use mathlib.Core.Path.{◌≡◌, sym, ap, ◌∙◌}
+use mathlib.Core.Path.{◌≡◌, sym, ap, ap₂, ◌∙◌}
 use Rattle.std.specs.declared.option.Option.{Option}
 use Rattle.std.specs.Prelude.{Some}
 use Rattle.std.specs.Option.{option_eq}
@@ -47,10 +47,10 @@ module _ {l : ℕ} {ws t : List ℕ} (n : ℕ) (ok : HasVertices l ws t) where
   goal-unused gs h =
       sym (ap (λ (b : Bool). mem it.vertex gs && b) (ne_eqb (closed_at closed it.vertex) (suc n) (unused h)) ∙ and-false (mem it.vertex gs))
 
-  -- v: the vertex read off its word
-  module _ (h : n < used_in t) {i v : ℕ} (at : i ≡ n) (read : v ≡ vertex_in ws t i) where
+  -- u: the tree's words in the node's hands; v: the vertex read of them
+  module _ (h : n < used_in t) {u : List ℕ} (own : u ≡ t) {i v : ℕ} (at : i ≡ n) (read : v ≡ vertex_in ws u i) where
     word-is : v ≡ vertex_in ws t n
-    word-is = read ∙ ap (vertex_in ws t) at
+    word-is = read ∙ ap₂ (λ (x : List ℕ) (k : ℕ). vertex_in ws x k) own at
 
     goal-vertex : Formed l t × HasVertex l t v
     goal-vertex = (ok.formed, omega (arith, ok.vertices n h, word-is))

@@ -1,8 +1,6 @@
 -- A record tested as a whole: what each test leaves to the next, and that all of them are the definition's.
 -- Assumes nothing.
 use mathlib.Core.Path.{◌≡◌, sym, ap, ap₂, ◌∙◌}
-use Rattle.std.specs.declared.result.Result.{Result}
-use Rattle.model.specs.declared.Refusal.{Refusal}
 use Rattle.model.specs.declared.Refusal.TheVariants.{InvalidSearch}
 use Rattle.std.specs.declared.option.Option.{Option}
 use Rattle.std.specs.Prelude.{None, Err, Some}
@@ -27,9 +25,8 @@ use Rattle.layout.specs.Read.{read_cache}
 use Rattle.sound.specs.Facts.{SoundWords, InUse}
 use Rattle.sound.proofs.Facts.{vertices-read}
 use Rattle.model.proofs.InTurn.{all-fails}
-use Rattle.memory.specs.declared.Standing.{Standing}
 use Rattle.memory.specs.Memory.{Listed, CanJudge, best_node_tests}
-use Rattle.memory.specs.Standing.{standing_in}
+use Rattle.memory.specs.Standing.{Stands}
 use Rattle.memory.proofs.Fits.{in_use, listed-fits, holds_at, held_at}
 use Rattle.memory.proofs.Judged.{refuses}
 use Rattle.memory.proofs.Costs.{Least, least-none, least_more, least-all}
@@ -56,20 +53,20 @@ module _ (ws : List ℕ) (s : Search) where
   abbrev tests : List Bool
   tests = valid_tests (read_cache ws).domain (read_cache ws).trees s
 
-  abbrev is : Result Standing Refusal
-  is = standing_in (read_cache ws) s
+  abbrev refused : Type 0
+  refused = Stands ws s (Err InvalidSearch)
 
   -- ---- the counts, the best's entry, and the goals
 
-  pub many-trees : 64 < s.tree_count → Err InvalidSearch ≡ is
+  pub many-trees : 64 < s.tree_count → refused
   unfolding valid
   many-trees h = refuses ws s (sym (all-fails tests 0 (all-fails (list_tests s) 1 (lt-leb s.tree_count 64 h))))
 
-  pub many_goals : 64 < s.goal_count → Err InvalidSearch ≡ is
+  pub many_goals : 64 < s.goal_count → refused
   unfolding valid
   many_goals h = refuses ws s (sym (all-fails tests 0 (all-fails (list_tests s) 3 (lt-leb s.goal_count 64 h))))
 
-  pub best-beyond : {b : BestSolution} → s.best_solution ≡ Some b → s.tree_count ≤ b.entry → Err InvalidSearch ≡ is
+  pub best-beyond : {b : BestSolution} → s.best_solution ≡ Some b → s.tree_count ≤ b.entry → refused
   unfolding valid
   best-beyond {b} e h =
       let two : List Bool = best_tests (read_cache ws).trees s b.entry b.node in
@@ -80,7 +77,7 @@ module _ (ws : List ℕ) (s : Search) where
     read : r ≡ all_below (vertex_count (read_cache ws).domain.graph) (goals s)
     read = below ∙ ap₂ all_below (z ∙ sym (vertices-read ok)) (goals-lent s)
 
-    pub goals-refuse : not r ≡ true → Err InvalidSearch ≡ is
+    pub goals-refuse : not r ≡ true → refused
     unfolding valid
     goals-refuse f = refuses ws s (sym (all-fails tests 1 (sym read ∙ not-true r f)))
 
@@ -119,7 +116,7 @@ module _ {ws : List ℕ} {s : Search} {least : Option ℕ} {i : ℕ} (p : Passed
         ∙ ap (λ (gs : List ℕ). allb (entry_tests (read_cache ws).domain (read_cache ws).trees gs (entry s (i - 1)))) (goals-lent s)
         ∙ sym (ap (passes ws s) (entries_at s fits (i - 1) (omega (arith, p.costs.left))))
 
-    pub entry-refuses : not r ≡ true → Err InvalidSearch ≡ standing_in (read_cache ws) s
+    pub entry-refuses : not r ≡ true → Stands ws s (Err InvalidSearch)
     unfolding valid everyb
     entry-refuses f =
         let fails = every-fails (passes ws s) (entries s) (i - 1) within (sym passed ∙ not-true r f) in
@@ -175,15 +172,18 @@ module _ {ws : List ℕ} {s : Search} {least : Option ℕ} {i : ℕ} (p : Passed
       ∙ best-decides e
 
   module _ {o : BestSolution} (e : s.best_solution ≡ Some o) (h : o.entry < s.tree_count) where
-    pub best-in-use : InUse ws (entry s o.entry).tree
-    best-in-use = in_use p.sound (held_at ws s p.sound (listed p) all-each o.entry h).slot
+    pub best-can : CanJudge ws (entry s o.entry)
+    best-can = (p.sound, held_at ws s p.sound (listed p) all-each o.entry h)
 
-    pub best-is : {r : Bool} → r ≡ allb (best_node_tests (read_cache ws).domain (read_cache ws).trees (goals_lent s) (entry s o.entry) o.node least s.exhausted)
+    pub best-in-use : InUse ws (entry s o.entry).tree
+    best-in-use = in_use p.sound best-can.1.slot
+
+    pub best-is : {r : Bool} → r ≡ allb (best_node_tests (read_cache ws).domain (tree (read_cache ws).trees (entry s o.entry).tree) (goals_lent s) (entry s o.entry).solution o.node least s.exhausted)
         → r ≡ valid (read_cache ws).domain (read_cache ws).trees s
     best-is c =
-        let three : List Bool = best_node_tests (read_cache ws).domain (read_cache ws).trees (goals s) (entry s o.entry) o.node least s.exhausted in
+        let three : List Bool = best_node_tests (read_cache ws).domain (tree (read_cache ws).trees (entry s o.entry).tree) (goals s) (entry s o.entry).solution o.node least s.exhausted in
         let closes : Bool = get_or three 0 true in
         c
-        ∙ ap (λ (gs : List ℕ). allb (best_node_tests (read_cache ws).domain (read_cache ws).trees gs (entry s o.entry) o.node least s.exhausted)) (goals-lent s)
+        ∙ ap (λ (gs : List ℕ). allb (best_node_tests (read_cache ws).domain (tree (read_cache ws).trees (entry s o.entry).tree) gs (entry s o.entry).solution o.node least s.exhausted)) (goals-lent s)
         ∙ sym (ap (λ (b : Bool). (b && (closes && true)) && allb (drop 1 three)) (lt-ltb o.entry s.tree_count h) ∙ and_assoc closes true (allb (drop 1 three)))
         ∙ best-decides e

@@ -51,8 +51,8 @@ pub record Fits (m : ℕ) (ts : List Tree) (s : Search) : Type 0 where
 abbrev pub FitsWords : List ℕ → Search → Type 0
 FitsWords ws s = Fits (vertices_in ws) (read_cache ws).trees s
 
--- what node n of an entry's tree has to pass to be the best of a record, finished or not: least is what the cheapest of the solutions held costs
-abbrev pub best_node_tests : Domain → List Tree → List ℕ → TreeMemory → ℕ → Option ℕ → Bool → List Bool
-best_node_tests d ts gs e n least x =
-    let t = tree ts e.tree in
-    closes_goal gs t n ∷ same_cost (Some (solution_cost d t.nodes n)) least ∷ (not x || is_held e.solution) ∷ []
+-- what node n of an entry's tree t has to pass to be the best of a record, finished or not: o is what the entry holds, least what the cheapest of
+-- the solutions held costs
+abbrev pub best_node_tests : Domain → Tree → List ℕ → Option ℕ → ℕ → Option ℕ → Bool → List Bool
+best_node_tests d t gs o n least x =
+    closes_goal gs t n ∷ same_cost (Some (solution_cost d t.nodes n)) least ∷ (not x || is_held o) ∷ []

@@ -3,42 +3,41 @@
 
 #![tactic(auto)]
 
+pub mod held_node;
+
 ghost use Rattle.std.specs.Prelude.{◌≡◌, leb, IsTrue, MatchOption};
 ghost use Rattle.model.specs.Lists.{allb};
-ghost use Rattle.model.specs.Worth.{solution_cost};
 ghost use Rattle.model.specs.Sound.{tree};
 ghost use Rattle.model.specs.Valid.{closes_goal, entry_tests, held_cost, lesser};
 ghost use Rattle.layout.specs.Read.{read_cache};
 ghost use Rattle.tree.specs.Tree.{tree_of};
-ghost use Rattle.sound.specs.Facts.{SoundWords, InUse};
-ghost use Rattle.memory.specs.Memory.{HasNode, HasVertices, CanJudge, best_node_tests};
-ghost use Rattle.memory.specs.Standing.{shown_at, standing_of, standing_in};
+ghost use Rattle.memory.specs.Memory.{HasVertices, CanJudge, best_node_tests};
+ghost use Rattle.memory.specs.Standing.{shown_at, Shows, HeldIs, standing_of, Stands};
 
+use held_node::HeldNode;
 use layout::lists::{are_vertices, contains};
-use layout::slots::slot_words;
 use model::limits::MAX_ENTRIES;
 use model::{Refusal, Search, TreeMemory};
-use tree::partial_keyed_closed_set;
-use tree::partial_keyed_closed_set::status;
+use sound::known::{SoundCache, TreeInUse};
+use tree::partial_keyed_closed_set::PartialKeyedClosedSet;
 
-// The node that a finished search shows: one of the tree in a slot.
+// The node that a finished search shows, by its numbers: words that are lent out to be changed are not kept beside it.
 #[derive(Clone, Copy)]
 pub struct Shown {
     pub slot: usize,
     pub node: u32,
 }
 
-// How a search stands. One that finished without a solution shows nothing.
+// How a search stands. One that finished without a solution shows nothing. Two cases by name, and no option of an option.
 #[derive(Clone, Copy)]
-pub enum Standing {
+pub enum Standing<'a> {
     Unfinished,
-    Finished(Option<Shown>),
+    Finished(Option<HeldNode<'a>>),
 }
 
 // Judges a record, and tells how its search stands. All of it is looked at in this one function, for each that it is handed to copies it.
-pub fn judge(words: &[u32], search: Search) -> Result<Standing, Refusal>
-    requires { SoundWords words.now }
-    ensures { result ≡ standing_in (read_cache words.now) search }
+pub fn judge<'a>(cache: SoundCache<'a>, search: Search) -> Result<Standing<'a>, Refusal>
+    ensures { Stands cache.entry.words.now search result }
 {
     if MAX_ENTRIES < search.tree_count as usize {
         return Err(Refusal::InvalidSearch);
@@ -46,17 +45,18 @@ pub fn judge(words: &[u32], search: Search) -> Result<Standing, Refusal>
     if MAX_ENTRIES < search.goal_count as usize {
         return Err(Refusal::InvalidSearch);
     }
+    let words = cache.words;
     let trees = search.trees;
     let keys = search.goal_keys;
     let count = search.goal_count as usize;
     let goals = &keys[0..count];
-    if !are_vertices(goals, layout::header(words, layout::VERTICES)) {
+    if !are_vertices(goals, cache.vertices()) {
         return Err(Refusal::InvalidSearch);
     }
     let mut least = None;
     for i in (0..search.tree_count as usize).rev() {
         let memory = trees[i];
-        if !entry_is_valid(words, memory, goals) {
+        if !entry_is_valid(cache, memory, goals) {
             return Err(Refusal::InvalidSearch);
         }
         let held = held_cost(words, memory);
@@ -69,24 +69,27 @@ pub fn judge(words: &[u32], search: Search) -> Result<Standing, Refusal>
         return Err(Refusal::InvalidSearch);
     }
     let memory = trees[best.entry as usize];
-    let is_valid = best_is_valid(words, memory, goals, best.node, least, search.exhausted);
-    stands(is_valid, search.exhausted, shown_at(memory))
+    let slot = memory.tree as usize;
+    let used = TreeInUse { words, slot };
+    let held = memory.solution;
+    let is_valid = best_is_valid(used, held, goals, best.node, least, search.exhausted);
+    stands(is_valid, search.exhausted, held_in(words, shown_at(memory)))
 }
 
-fn entry_is_valid(words: &[u32], memory: TreeMemory, goals: &[u32]) -> bool
-    requires { SoundWords words.now }
-    ensures { result ≡ allb (entry_tests (read_cache words.now).domain (read_cache words.now).trees goals.now memory) }
+fn entry_is_valid(cache: SoundCache, memory: TreeMemory, goals: &[u32]) -> bool
+    ensures { let ws = cache.entry.words.now in result ≡ allb (entry_tests (read_cache ws).domain (read_cache ws).trees goals.now memory) }
 {
-    if layout::header(words, layout::TREES) <= memory.tree as usize {
+    let words = cache.words;
+    let slot = memory.tree as usize;
+    if cache.trees() <= slot {
         return false;
     }
-    let vertices = layout::header(words, layout::VERTICES);
-    if !is_within(memory.last_known_closed_len, vertices) {
+    if !is_within(memory.last_known_closed_len, cache.vertices()) {
         return false;
     }
     match memory.solution {
         None => true,
-        Some(node) => closes_goal(words, memory.tree as usize, goals, node),
+        Some(node) => closes_goal(TreeInUse { words, slot }, goals, node),
     }
 }
 
@@ -96,13 +99,11 @@ fn is_within(known: Option<u32>, vertices: usize) -> bool
     known.is_none_or(|n| n as usize <= vertices)
 }
 
-// Whether a node is the closed node of a goal, in the tree of a slot.
-fn closes_goal(words: &[u32], slot: usize, goals: &[u32], node: u32) -> bool
-    requires { InUse words.now slot }
-    ensures { result ≡ closes_goal goals.now (tree (read_cache words.now).trees slot) node }
+// Whether a node is the closed node of a goal.
+fn closes_goal(used: TreeInUse, goals: &[u32], node: u32) -> bool
+    ensures { let t = used.entry in result ≡ closes_goal goals.now (tree (read_cache t.words.now).trees t.slot) node }
 {
-    let edges = layout::header(words, layout::EDGES);
-    is_closed_goal(words, slot_words(words, slot), edges, goals, node)
+    is_closed_goal(used.words, used.own_words(), used.edges(), goals, node)
 }
 
 fn is_closed_goal(words: &[u32], tree: &[u32], edges: usize, goals: &[u32], node: u32) -> bool
@@ -112,42 +113,34 @@ fn is_closed_goal(words: &[u32], tree: &[u32], edges: usize, goals: &[u32], node
     if tree[layout::NODES] <= node {
         return false;
     }
-    let vertex = layout::node_vertex(words, tree, node as usize);
-    contains(goals, vertex) && status(tree, edges, vertex as usize) == Some(node)
+    let vertex = layout::node_of(tree, node as usize).vertex(words);
+    let closed = PartialKeyedClosedSet { tree, edges };
+    contains(goals, vertex) && closed.status(vertex as usize) == Some(node)
 }
 
-// Whether a node may be the best, as one of an entry's tree; least: what the cheapest of the solutions held costs. A finished search with
-// a best has the solution that it answers.
+// Whether a node of an entry's tree may be the best. held: the solution that the entry holds; least: what the cheapest of the solutions
+// held costs. A finished search with a best has the solution that it answers.
 fn best_is_valid(
-    words: &[u32],
-    memory: TreeMemory,
+    used: TreeInUse,
+    held: Option<u32>,
     goals: &[u32],
     node: u32,
     least: Option<u64>,
     exhausted: bool,
 ) -> bool
-    requires { InUse words.now memory.tree }
-    ensures { result ≡ allb (best_node_tests (read_cache words.now).domain (read_cache words.now).trees goals.now memory node least exhausted) }
+    ensures { let t = used.entry in result ≡ allb (best_node_tests (read_cache t.words.now).domain (tree (read_cache t.words.now).trees t.slot) goals.now held node least exhausted) }
 {
-    closes_goal(words, memory.tree as usize, goals, node)
-        && Some(solution_cost(words, memory.tree as usize, node)) == least
-        && (!exhausted || memory.solution.is_some())
-}
-
-// What the solution at a node is worth.
-pub fn solution_cost(words: &[u32], slot: usize, node: u32) -> u64
-    requires { HasNode words.now slot node }
-    ensures { result ≡ solution_cost (read_cache words.now).domain (tree (read_cache words.now).trees slot).nodes node }
-{
-    partial_keyed_closed_set::solution_cost(words, slot_words(words, slot), node)
+    let TreeInUse { words, slot, .. } = used;
+    closes_goal(used, goals, node)
+        && Some(HeldNode { words, slot, node }.solution_cost()) == least
+        && (!exhausted || held.is_some())
 }
 
 fn held_cost(words: &[u32], memory: TreeMemory) -> Option<u64>
     requires { CanJudge words.now memory }
     ensures { result ≡ held_cost (read_cache words.now).domain (tree (read_cache words.now).trees memory.tree) memory.solution }
 {
-    let node = memory.solution?;
-    Some(solution_cost(words, memory.tree as usize, node))
+    Some(held_in(words, shown_at(memory))?.solution_cost())
 }
 
 // The lesser of two costs; one that is missing is no less than any.
@@ -169,8 +162,21 @@ pub fn shown_at(memory: TreeMemory) -> Option<Shown>
     memory.solution.map(|node| Shown { slot, node })
 }
 
-fn stands(is_valid: bool, exhausted: bool, shown: Option<Shown>) -> Result<Standing, Refusal>
-    ensures { result ≡ standing_of is_valid exhausted shown }
+// The node that is shown, of the words that hold it.
+pub fn held_in<'a>(words: &'a [u32], shown: Option<Shown>) -> Option<HeldNode<'a>>
+    requires { Shows words.now shown }
+    ensures { HeldIs words.now shown result }
+{
+    let Shown { slot, node } = shown?;
+    Some(HeldNode { words, slot, node })
+}
+
+fn stands<'a>(
+    is_valid: bool,
+    exhausted: bool,
+    held: Option<HeldNode<'a>>,
+) -> Result<Standing<'a>, Refusal>
+    ensures { result ≡ standing_of is_valid exhausted held.entry }
 {
     if !is_valid {
         return Err(Refusal::InvalidSearch);
@@ -178,5 +184,5 @@ fn stands(is_valid: bool, exhausted: bool, shown: Option<Shown>) -> Result<Stand
     if !exhausted {
         return Ok(Standing::Unfinished);
     }
-    Ok(Standing::Finished(shown))
+    Ok(Standing::Finished(held))
 }

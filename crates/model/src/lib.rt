@@ -28,7 +28,7 @@ pub enum Refusal {
     ShortPath,
 }
 
-// 01's numbers.
+// 01's numbers. A function with the name that the definitions and docs/CLAIMS.md have, and no `From`: each caller prints it or hands it to C.
 pub fn number(refusal: Refusal) -> u32
     ensures { result ≡ refusal_number refusal }
 {

@@ -8,9 +8,9 @@ use native.Mathlib.Decide.{dec_lt}
 use native.Mathlib.Omega.{arith}
 use lib.ListN.{length, get_or, set, length-set, length-append, get_or-append}
 use lib.Seq.{sets, length-sets, get_or-set_same, get_or-set_other, get_or_at, ext_get_or}
-use Rattle.model.specs.Graph.{Domain, initial_cost}
+use Rattle.model.specs.Graph.{Domain, absent, initial_cost}
 use Rattle.model.specs.Tree.{Tree, new_tree}
-use Rattle.model.specs.Sound.{SoundTrees, no_tree, tree}
+use Rattle.model.specs.Sound.{Sound, SoundTrees, no_tree, tree}
 use Rattle.model.specs.Calls.{with_trees}
 use Rattle.layout.specs.Layout.{header_words, direction_at, vertex_count_at, edge_count_at, slot_count_at, tree_count_at, edges_in, slots_in, trees_in, vertices_in, start_in, node_at, tree_words, slot_at}
 use Rattle.layout.specs.Read.{tree_in, read_trees, domain_of, read_cache}
@@ -147,11 +147,16 @@ module _ (ws : List ℕ) (v : ℕ) (h : CanPlant ws v) where
   unfolding tree_in
   start-at j b = ap (λ (t : Tree). t.start) (tree-at j b)
 
+  new-sound : Sound d (new_tree d v)
+  new-sound = rw (get_or_at ts (new_tree d v) [] no_tree u (trees-in-length m l u ws)) at (sound-trees.each u (inside u (omega arith)))
+
   pub root-inside : v < m
   unfolding new_tree
-  root-inside =
-      let ok = rw (get_or_at ts (new_tree d v) [] no_tree u (trees-in-length m l u ws)) at (sound-trees.each u (inside u (omega arith))) in
-      omega (arith, ok.inside, vertex-count-in m l ws (omega (arith, h.sound.held.fits)))
+  root-inside = omega (arith, new-sound.inside, vertex-count-in m l ws (omega (arith, h.sound.held.fits)))
+
+  pub root-allowed : initial_cost (read_cache ws).domain v ≢ absent
+  unfolding new_tree read_cache
+  root-allowed = new-sound.allowed
 
   planted-in : SoundIn m l (slots_in ws) (u + 1) left
   planted-in =

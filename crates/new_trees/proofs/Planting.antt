@@ -7,35 +7,53 @@ use native.Mathlib.Omega.{arith}
 use lib.ListN.{length, get_or, set, take, length-take}
 use lib.Seq.{sets}
 use borrow.Rule.Slice.PartMut.{put_mid, mid_of}
+use Rattle.std.specs.Prelude.{Some}
+use Rattle.std.specs.Option.{is_some, IsSome}
+use Rattle.std.specs.declared.option.Option.{Option}
 use Rattle.model.specs.Graph.{Domain, root_cost, initial_cost}
 use Rattle.model.specs.Tree.{Tree}
 use Rattle.model.specs.Calls.{Cache, with_trees}
 use Rattle.layout.specs.declared.slots.Slot.{Slot}
 use Rattle.layout.specs.Slots.{slot_of, HasSlot}
 use Rattle.layout.specs.Layout.{tree_count_at, initial_in, initial_at, tree_words, slot_at, direction_in, edges_in, slots_in, trees_in, vertices_in}
-use Rattle.layout.specs.Read.{direction_of, read_cache}
+use Rattle.layout.specs.Read.{direction_of, cost_if, read_cache}
+use Rattle.layout.proofs.StartCosts.{cost-there}
 use Rattle.sound.specs.Facts.{SoundWords}
 use Rattle.sound.proofs.Facts.{trees-length}
 use Rattle.sound_tree.proofs.Nodes.{start-cost}
 use Rattle.new_trees.specs.Plant.{with_new, CanPlantAll, PlantsAll, CanPlant, Plants}
 use Rattle.layout.specs.Planted.{root_words, planted, planted_all}
 use Rattle.new_trees.proofs.Stored.{stored-part}
-use Rattle.new_trees.proofs.Planted.{fits, root-inside, plants}
+use Rattle.new_trees.proofs.Planted.{fits, root-inside, root-allowed, plants}
 use Rattle.new_trees.proofs.NewTrees.{take_next, new-append, new-length, sound-new}
 
 -- the cost of a root, as the words have it
-pub root-cost-is : {ws : List ℕ} → SoundWords ws → {v c : ℕ} → v < vertices_in ws → c ≡ root_cost (direction_of (direction_in ws)) (initial_in ws v)
-    → c ≡ initial_cost (read_cache ws).domain v
+pub root-cost-is : {ws : List ℕ} → SoundWords ws → {v : ℕ} → v < vertices_in ws → root_cost (direction_of (direction_in ws)) (initial_in ws v) ≡ initial_cost (read_cache ws).domain v
 unfolding read_cache
-root-cost-is {ws} ok {v} b c =
-    c
-    ∙ sym (start-cost (vertices_in ws) (edges_in ws) ws v b (omega (arith, ok.held.fits)))
+root-cost-is {ws} ok {v} b =
+    sym (start-cost (vertices_in ws) (edges_in ws) ws v b (omega (arith, ok.held.fits)))
 
 -- ---- one tree
 
 module _ {ws : List ℕ} {v : ℕ} (h : CanPlant ws v) where
   pub root-word : initial_at + v < length ws
   root-word = omega (arith, root-inside ws v h, h.sound.held.fits)
+
+  root-cost : root_cost (direction_of (direction_in ws)) (initial_in ws v) ≡ initial_cost (read_cache ws).domain v
+  root-cost = root-cost-is h.sound (root-inside ws v h)
+
+  -- o: the cost of the root, by which the new tree is sound
+  module _ {o : Option ℕ} (said : o ≡ cost_if (root_cost (direction_of (direction_in ws)) (initial_in ws v))) where
+    there : o ≡ Some (initial_cost (read_cache ws).domain v)
+    there = cost-there said (λ e. root-allowed ws v h (sym root-cost ∙ e)) ∙ ap Some root-cost
+
+    pub root-there : IsSome o
+    root-there = ap is_some there
+
+    pub root-is : {c : ℕ} → o ≡ Some c → c ≡ initial_cost (read_cache ws).domain v
+    root-is {c} e =
+        let same : Some c ≡ Some (initial_cost (read_cache ws).domain v) = sym e ∙ there in
+        cc
 
   -- s: the next slot, by its number u
   module _ {u : ℕ} (eu : u ≡ trees_in ws) where
@@ -45,10 +63,7 @@ module _ {ws : List ℕ} {v : ℕ} (h : CanPlant ws v) where
       fits = rw eu (fits ws v h);
     }
 
-    module _ {s : Slot} (es : s ≡ slot_of ws u) {c : ℕ} (ec : c ≡ root_cost (direction_of (direction_in ws)) (initial_in ws v)) where
-      cost : c ≡ initial_cost (read_cache ws).domain v
-      cost = root-cost-is h.sound (root-inside ws v h) ec
-
+    module _ {s : Slot} (es : s ≡ slot_of ws u) {c : ℕ} (cost : c ≡ initial_cost (read_cache ws).domain v) where
       pub plant-ends : (ys : List ℕ) → ys ≡ sets (mid_of s.at (s.end - s.at) ws) 0 (root_words v c)
           → Plants ws v (set (put_mid s.at (s.end - s.at) ws ys) tree_count_at (u + 1))
       unfolding planted_all

@@ -41,7 +41,7 @@ pub fn plan(words: &[u32], roots: &[u32]) -> TreePlan
     plan
 }
 
-// For each vertex the slot plus 1 of the tree that starts there.
+// For each vertex the slot plus 1 of the tree that starts there, 0 for none: options would take twice the room of a stack that is bounded.
 fn find_trees(words: &[u32], table: &mut [u32])
     requires { CanFindTrees words.now table.old }
     ensures { SlotTable (read_cache words.now).trees table.new }
@@ -58,7 +58,7 @@ fn plan_root(words: &[u32], table: &mut [u32], plan: &mut TreePlan, vertex: u32)
     requires { CanPlanRoot words.now table.old plan.old vertex }
     ensures { PlansRoot words.now table.old plan.old vertex plan.new table.new }
 {
-    if root_cost(words, vertex as usize) == layout::ABSENT {
+    if root_cost(words, vertex as usize).is_none() {
         return;
     }
     let slot = table[vertex as usize];
@@ -88,7 +88,7 @@ fn plant(words: &mut [u32], vertex: u32)
     ensures { Plants words.old vertex words.new }
 {
     let used = layout::header(words, layout::TREES);
-    let cost = root_cost(words, vertex as usize);
+    let cost = root_cost(words, vertex as usize).unwrap();
     let Slot { at, end, .. } = slot_of(words, used);
     put_root(&mut words[at..end], vertex, cost);
     words[layout::TREES] = used as u32 + 1;

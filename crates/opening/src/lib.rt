@@ -11,7 +11,9 @@ use layout::lists::are_vertices;
 use model::limits::MAX_ENTRIES;
 use model::{Refusal, Search};
 
-// Opens a search from the starts to the goals. On a backward cache its trees root at the goals and the starts are looked for.
+// Opens a search from the starts to the goals. On a backward cache its trees root at the goals and the starts are looked for. Soundness is
+// asked for, here and where else words are written, and not held in a struct with them: tried, such a struct by value may not be written
+// through in a branch or a loop, and as `&mut` each call would promise besides that it keeps the reference.
 pub fn initialize(words: &mut [u32], starts: &[u32], goals: &[u32]) -> Result<Search, Refusal>
     requires { SoundWords words.old }
     ensures { Initializes words.old starts.now goals.now result words.new }

@@ -46,7 +46,7 @@ pub fn read_order(line: &[u8]) -> Option<Order>
 }
 
 // The first field: `F` or `B`.
-fn read_letter(field: &[u8]) -> Option<Form>
+pub fn read_letter(field: &[u8]) -> Option<Form>
     ensures { result ≡ form_of field.now }
 {
     match field {

@@ -22,7 +22,9 @@ use Rattle.layout.specs.Read.{direction_of, read_cache}
 use Rattle.sound.specs.Facts.{SoundWords}
 use Rattle.memory.specs.declared.Shown.{Shown}
 use Rattle.unchecked.specs.declared.SearchRun.{SearchRun}
-use Rattle.unchecked.specs.Shown.{Shows, status_of}
+use Rattle.memory.specs.declared.held_node.HeldNode.{HeldNode}
+use Rattle.memory.specs.Standing.{shown_node, Shows, HeldIs}
+use Rattle.unchecked.specs.Shown.{status_of}
 use Rattle.unchecked.specs.Retrace.{retrace_node_if, retrace_shown}
 use Rattle.unchecked.specs.Run.{RunsToEnd, RunsAfter, Runs}
 use Rattle.order_lines.specs.declared.answers.Answer.{Answer}
@@ -30,11 +32,18 @@ use Rattle.order_lines.specs.declared.answers.Line.{Line}
 use Rattle.order_lines.specs.Answers.{answer_line}
 use Rattle.put_text.specs.Puts.{Puts}
 use Rattle.order_run.specs.Orders.{answer_of, line_for, shown_text, driven_by, driven_text, ordered_by, Ordered, ordered}
-use Rattle.order_run.specs.Run.{path_line, shown_line, Ran}
+use Rattle.order_run.specs.Run.{path_line, shown_line, held_line, Ran}
 use Rattle.order_run.proofs.Sizes.{path-taken}
 
 pub puts-as : {out t t' left : List ℕ} {r : ℕ} → t ≡ t' → Puts out 0 t r left → Puts out 0 t' r left
 puts-as {out} {left = left} {r = r} e h = subst (λ (x : List ℕ). Puts out 0 x r left) e h
+
+-- the line with the path of the node that is held is that of the node shown
+pub held-line : (ws : List ℕ) (l : Line) (x : Option Shown) (o : Option HeldNode) → HeldIs ws x o → held_line l o ≡ shown_line ws l x
+held-line ws l None None z = refl
+held-line ws l None (Some h) z = absurd z
+held-line ws l (Some x) None z = absurd z
+held-line ws l (Some x) (Some h) z = λ i. shown_line (z.0 i) l (shown_node (z.1.0 i) (z.1.1 i))
 
 -- ---- a search that was run to its end
 

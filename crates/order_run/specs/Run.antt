@@ -14,6 +14,8 @@ use Rattle.layout.specs.Layout.{direction_in}
 use Rattle.sound.specs.Facts.{SoundWords}
 use Rattle.cache.specs.Open.{Opening}
 use Rattle.memory.specs.declared.Shown.{Shown}
+use Rattle.memory.specs.declared.held_node.HeldNode.{HeldNode}
+use Rattle.memory.specs.Standing.{shown_node}
 use Rattle.order_lines.specs.declared.orders.Form.{Form}
 use Rattle.order_lines.specs.declared.orders.Form.TheVariants.{Forward, Backward}
 use Rattle.order_lines.specs.declared.orders.Order.{Order}
@@ -50,6 +52,11 @@ path_line false ws l slot n = answer_line l (words (direction_of (direction_in w
 abbrev pub shown_line : List ℕ → Line → Option Shown → List ℕ
 shown_line ws l None = answer_line l []
 shown_line ws l (Some x) = path_line (ltb 2047 (1 + 2 * moves_of (tree (read_cache ws).trees x.slot).nodes x.node)) ws l x.slot x.node
+
+-- and with that of the node that is held
+abbrev pub held_line : Line → Option HeldNode → List ℕ
+held_line l None = answer_line l []
+held_line l (Some h) = shown_line h.words.now l (shown_node h.slot h.node)
 
 -- order i from ss to gs in the words ws: its text stands at the start of out, and r is its length
 pub record Ran (ws : List ℕ) (i : ℕ) (ss gs out : List ℕ) (r : ℕ) (left out' : List ℕ) : Type 0 where

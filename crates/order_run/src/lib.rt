@@ -2,15 +2,15 @@
 
 #![tactic(auto)]
 
-ghost use Rattle.std.specs.Prelude.{◌≡◌};
+ghost use Rattle.std.specs.Prelude.{◌≡◌, ◌<◌, ◌≤◌, length};
 ghost use Rattle.model.specs.Answers.{step_reply};
 ghost use Rattle.sound.specs.Facts.{SoundWords};
-ghost use Rattle.unchecked.specs.Shown.{Shows};
 ghost use Rattle.put_text.specs.Puts.{Puts};
 ghost use Rattle.order_run.specs.Orders.{answer_of, refused_order};
-ghost use Rattle.order_run.specs.Run.{CanPut, CanPutShown, PathRoom, shown_line, Ran, RanLine, CalledBoth};
+ghost use Rattle.order_run.specs.Run.{CanPut, CanPutShown, PathRoom, held_line, Ran, RanLine, CalledBoth};
 
-use memory::Shown;
+use memory::held_in;
+use memory::held_node::HeldNode;
 use model::{Refusal, SearchStatus, number};
 use order_lines::answers::{Answer, Line, put_line};
 use order_lines::orders::{Form, read_order};
@@ -33,7 +33,7 @@ pub fn put_order(
     ensures { RanLine forward.old backward.old order line.now out.old result forward.new backward.new out.new }
 {
     let Some(read) = read_order(line) else {
-        return put_refusal(out, order, 1);
+        return put_refusal(out, order, number(Refusal::Malformed));
     };
     match read.form {
         Form::Forward => put_search(forward, order, &read.starts, &read.goals, path, out),
@@ -43,7 +43,7 @@ pub fn put_order(
 
 // Puts the line of an order that is refused, by its number, of which any may be put.
 pub fn put_refusal(out: &mut [u8], order: usize, number: u32) -> usize
-    requires { CanPut order out.old }
+    requires { (order < 10000000000) × (108 ≤ length out.old) }
     ensures { Puts out.old 0 (refused_order order number) result out.new }
 {
     let line = Line {
@@ -74,7 +74,7 @@ fn put_search(
         waits: run.waits,
         tickets: run.tickets,
     };
-    put_shown(words, line, run.shown, path, out)
+    put_shown(line, held_in(words, run.shown), path, out)
 }
 
 // The line's answer, by that of the search.
@@ -90,20 +90,14 @@ fn answer_of(answer: Result<SearchStatus, Refusal>) -> Answer
 }
 
 // A solved order's line shows its path.
-fn put_shown(
-    words: &[u32],
-    line: Line,
-    shown: Option<Shown>,
-    path: &mut [u32],
-    out: &mut [u8],
-) -> usize
-    requires { CanPutShown line path.old out.old × Shows words.now shown }
-    ensures { Puts out.old 0 (shown_line words.now line shown) result out.new }
+fn put_shown(line: Line, held: Option<HeldNode>, path: &mut [u32], out: &mut [u8]) -> usize
+    requires { CanPutShown line path.old out.old }
+    ensures { Puts out.old 0 (held_line line held.entry) result out.new }
 {
-    let Some(Shown { slot, node }) = shown else {
+    let Some(node) = held else {
         return put_line(out, line, &[]);
     };
-    match retrace_node(words, slot, node, path) {
+    match retrace_node(node, path) {
         Ok(moves) => put_line(out, line, &path[..1 + 2 * moves]),
         Err(refusal) => put_refusal(out, line.order, number(refusal)),
     }

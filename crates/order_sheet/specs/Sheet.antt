@@ -4,8 +4,8 @@ use Rattle.std.specs.Prelude.{◌≡◌, List, [], ◌++◌, ℕ, ◌<◌, ◌�
 use Rattle.layout.specs.Read.{read_cache}
 use Rattle.order_lines.specs.Answers.{refused_line}
 use Rattle.put_text.specs.Puts.{Puts}
-use Rattle.order_run.specs.Lent.{max_bytes, lent_words}
-use Rattle.order_run.specs.Run.{PathRoom, CalledBoth}
+use Rattle.order_run.specs.Lent.{max_bytes}
+use Rattle.order_run.specs.Run.{CalledBoth}
 use Rattle.order_sheet.specs.Whole.{Caches, lines_text, sheet_text}
 use Rattle.order_sheet.specs.declared.Part.{Part}
 
@@ -13,12 +13,6 @@ use Rattle.order_sheet.specs.declared.Part.{Part}
 
 abbrev pub caches_in : List ℕ → List ℕ → Caches
 caches_in fs bs = record { forward = read_cache fs; backward = read_cache bs }
-
--- the words lent, and the bytes for a line
-pub record CanBegin (fs bs out : List ℕ) : Type 0 where
-  pub forward : length fs ≡ lent_words
-  pub backward : length bs ≡ lent_words
-  pub room : 24576 ≤ length out
 
 -- an order is left at the place of p: its number is no greater than the place, and the words hold caches of one graph after calls
 pub record CanGoOn (orders fs bs : List ℕ) (p : Part) : Type 0 where
@@ -43,10 +37,9 @@ pub record RefusedPart (orders out : List ℕ) (n : ℕ) (p : Part) (out' : List
 abbrev pub Begins : List ℕ → List ℕ → List ℕ → Part → List ℕ → List ℕ → List ℕ → Type 0
 Begins chart orders out p fs bs out' = PutsPart orders out (sheet_text chart orders) p fs bs out'
 
-pub record CanPutNext (orders fs bs ps out : List ℕ) (p : Part) : Type 0 where
+pub record CanPutNext (orders fs bs out : List ℕ) (p : Part) : Type 0 where
   pub left : p.at < length orders
   pub can : CanGoOn orders fs bs p
-  pub path : PathRoom ps
   pub room : 24576 ≤ length out
 
 -- the part of the order at the place of p

@@ -13,19 +13,23 @@ const SPACE: usize = MAX_BYTES + 1;
 // Prints the sheet of the files with these names. Where one of them cannot be read, standard error says so, and nothing is printed.
 pub fn run_files(rt: &(impl Files + Eprint), chart_name: &[u8], orders_name: &[u8]) {
     let mut chart = [0u8; SPACE];
-    let Some(n) = read_file(rt, chart_name, &mut chart) else {
+    let Some(chart) = read_file(rt, chart_name, &mut chart) else {
         return;
     };
     let mut orders = [0u8; SPACE];
-    let Some(m) = read_file(rt, orders_name, &mut orders) else {
+    let Some(orders) = read_file(rt, orders_name, &mut orders) else {
         return;
     };
-    run(&chart[..n], &orders[..m]);
+    run(chart, orders);
 }
 
 // A file's first bytes, as many as there is space for, or none where it cannot be read.
-pub fn read_file(rt: &(impl Files + Eprint), name: &[u8], space: &mut [u8]) -> Option<usize>
-    ensures { IfSome result (λ n. n ≤ length space.new) }
+pub fn read_file<'a>(
+    rt: &(impl Files + Eprint),
+    name: &[u8],
+    space: &'a mut [u8],
+) -> Option<&'a [u8]>
+    ensures { IfSome result (λ s. length s.now ≤ length space.old) }
 {
     read_named(rt, name, space)
         .inspect_err(|error| fail(rt, name, error))
@@ -33,8 +37,8 @@ pub fn read_file(rt: &(impl Files + Eprint), name: &[u8], space: &mut [u8]) -> O
 }
 
 // A name that is no text names no file that can be opened.
-fn read_named(rt: &impl Files, name: &[u8], space: &mut [u8]) -> std::io::Result<usize>
-    ensures { IfOk result (λ n. n ≤ length space.new) }
+fn read_named<'a>(rt: &impl Files, name: &[u8], space: &'a mut [u8]) -> std::io::Result<&'a [u8]>
+    ensures { IfOk result (λ s. length s.now ≤ length space.old) }
 {
     let Ok(path) = str::from_utf8(name) else {
         return Err(Error::from(ErrorKind::InvalidFilename));
@@ -44,19 +48,19 @@ fn read_named(rt: &impl Files, name: &[u8], space: &mut [u8]) -> std::io::Result
 }
 
 // Reads until the space is full, the file ends or a read fails.
-fn read_all(file: &mut impl Read, space: &mut [u8]) -> std::io::Result<usize>
-    ensures { IfOk result (λ n. n ≤ length space.new) }
+fn read_all<'a>(file: &mut impl Read, space: &'a mut [u8]) -> std::io::Result<&'a [u8]>
+    ensures { IfOk result (λ s. length s.now ≤ length space.old) }
 {
     let mut at = 0;
     // By as many bytes as each read gives.
     while at < space.len() {
         let n = file.read(&mut space[at..])?;
         if n == 0 {
-            return Ok(at);
+            break;
         }
         at += n;
     }
-    Ok(at)
+    Ok(&space[..at])
 }
 
 // Writes a line to standard error: the name, a colon and what failed.

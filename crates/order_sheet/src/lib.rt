@@ -8,7 +8,7 @@ pub mod files;
 ghost use Rattle.std.specs.Prelude.{◌≡◌, ◌≤◌, length};
 ghost use Rattle.model.specs.Answers.{number as refusal_number};
 ghost use Rattle.order_sheet.specs.Whole.{is_overlong};
-ghost use Rattle.order_sheet.specs.Sheet.{CanBegin, Begins, RefusedPart, CanPutNext, PutsNext};
+ghost use Rattle.order_sheet.specs.Sheet.{Begins, RefusedPart, CanPutNext, PutsNext};
 
 use model::{Refusal, number};
 use order_lines::answers::put_refused;
@@ -30,6 +30,14 @@ const LINE: usize = 24576;
 // Lines are written many at once: the bytes that are put before they are written.
 const SPACE: usize = 65536;
 
+// The words lent to a sheet's orders: a cache for each direction, and a path.
+#[derive(Drop)]
+struct Lent {
+    forward: [u32; WORDS],
+    backward: [u32; WORDS],
+    path: [u32; MAX_PATH],
+}
+
 // A part of a sheet: its bytes, and where the next order stands and which number it has.
 #[derive(Clone, Copy)]
 pub struct Part {
@@ -40,11 +48,13 @@ pub struct Part {
 
 // Prints the sheet of a chart and its orders.
 pub fn run(chart: &[u8], orders: &[u8]) {
-    let mut forward = [0u32; WORDS];
-    let mut backward = [0u32; WORDS];
-    let mut path = [0u32; MAX_PATH];
+    let mut lent = Lent {
+        forward: [0; WORDS],
+        backward: [0; WORDS],
+        path: [0; MAX_PATH],
+    };
     let mut out = [0u8; SPACE];
-    let mut part = begin(&mut forward, &mut backward, chart, orders, &mut out);
+    let mut part = begin(&mut lent, chart, orders, &mut out);
     let mut filled = part.bytes;
     // By as many bytes as each order has, which is known once it is put.
     while part.at < orders.len() {
@@ -52,14 +62,7 @@ pub fn run(chart: &[u8], orders: &[u8]) {
             io::write_all(1, &out[..filled]);
             filled = 0;
         }
-        part = put_next(
-            &mut forward,
-            &mut backward,
-            orders,
-            part,
-            &mut path,
-            &mut out[filled..],
-        );
+        part = put_next(&mut lent, orders, part, &mut out[filled..]);
         filled += part.bytes;
     }
     io::write_all(1, &out[..filled]);
@@ -67,23 +70,17 @@ pub fn run(chart: &[u8], orders: &[u8]) {
 
 // The first part: the title, where both caches were opened. If a file is too long, or the chart is refused, a line that says so is
 // the whole sheet.
-fn begin(
-    forward: &mut [u32],
-    backward: &mut [u32],
-    chart: &[u8],
-    orders: &[u8],
-    out: &mut [u8],
-) -> Part
-    requires { CanBegin forward.old backward.old out.old }
-    ensures { Begins chart.now orders.now out.old result forward.new backward.new out.new }
+fn begin(lent: &mut Lent, chart: &[u8], orders: &[u8], out: &mut [u8]) -> Part
+    requires { 24576 ≤ length out.old }
+    ensures { Begins chart.now orders.now out.old result lent.new.forward lent.new.backward out.new }
 {
     if is_overlong(chart) || is_overlong(orders) {
         return refused_sheet(orders, out, Refusal::OverLimit);
     }
-    if let Err(refused) = cache::open(forward, chart, 0, SLOTS) {
+    if let Err(refused) = cache::open(&mut lent.forward, chart, 0, SLOTS) {
         return refused_sheet(orders, out, refused.refusal);
     }
-    if let Err(refused) = cache::open(backward, chart, 1, SLOTS) {
+    if let Err(refused) = cache::open(&mut lent.backward, chart, 1, SLOTS) {
         return refused_sheet(orders, out, refused.refusal);
     }
     Part {
@@ -112,16 +109,9 @@ fn refused_sheet(orders: &[u8], out: &mut [u8], refusal: Refusal) -> Part
 }
 
 // The line of the order at a part's place. A last line without LF is no order, but has a number.
-fn put_next(
-    forward: &mut [u32],
-    backward: &mut [u32],
-    orders: &[u8],
-    part: Part,
-    path: &mut [u32],
-    out: &mut [u8],
-) -> Part
-    requires { CanPutNext orders.now forward.old backward.old path.old out.old part }
-    ensures { PutsNext orders.now forward.old backward.old out.old part result forward.new backward.new out.new }
+fn put_next(lent: &mut Lent, orders: &[u8], part: Part, out: &mut [u8]) -> Part
+    requires { CanPutNext orders.now lent.old.forward lent.old.backward out.old part }
+    ensures { PutsNext orders.now lent.old.forward lent.old.backward out.old part result lent.new.forward lent.new.backward out.new }
 {
     let at = part.at;
     let order = part.order;
@@ -129,13 +119,21 @@ fn put_next(
     let end = at + find(&orders[at..], b'\n');
     if end == orders.len() {
         return Part {
-            bytes: put_refusal(out, order, 1),
+            bytes: put_refusal(out, order, number(Refusal::Malformed)),
             at: end,
             order: next,
         };
     }
+    let line = &orders[at..end];
     Part {
-        bytes: put_order(forward, backward, order, &orders[at..end], path, out),
+        bytes: put_order(
+            &mut lent.forward,
+            &mut lent.backward,
+            order,
+            line,
+            &mut lent.path,
+            out,
+        ),
         at: end + 1,
         order: next,
     }

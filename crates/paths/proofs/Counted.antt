@@ -1,6 +1,6 @@
 -- Counting the moves on the way from a node to the root.
 -- Assumes nothing.
-use mathlib.Core.Path.{◌≡◌, ap, ◌∙◌}
+use mathlib.Core.Path.{◌≡◌, ap, ap₂, ◌∙◌}
 use mathlib.Core.List.{List}
 use Prim.Native.Nat.{ℕ, ◌+◌, ◌<◌, ◌≤◌}
 use native.Mathlib.Omega.{arith}
@@ -23,8 +23,9 @@ module _ {t : List ℕ} {n m i : ℕ} (k : Counted t n m i) where
   pub count_less : {x j : ℕ} → 0 < i → x ≡ parent_in t i → j ≡ x → j < i
   count_less pos e w = omega (arith, k.hung.parents i pos (omega arith))
 
-  pub count_turn : {x j : ℕ} → 0 < i → x ≡ parent_in t i → j ≡ x → Counted t n (m + 1) j
-  count_turn pos e w =
+  pub count_turn : {s : List ℕ} {k x j : ℕ} → 0 < i → s ≡ t → k ≡ i → x ≡ parent_in s k → j ≡ x → Counted t n (m + 1) j
+  count_turn pos same at read w =
+      let e = read ∙ ap₂ (λ (x : List ℕ) (y : ℕ). parent_in x y) same at in
       let up = w ∙ e in
       record {
         hung = rw up (hung-parent t i k.hung pos);

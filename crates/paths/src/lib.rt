@@ -7,6 +7,8 @@ ghost use Rattle.std.specs.Prelude.{length};
 ghost use Rattle.layout.specs.Layout.{direction_in};
 ghost use Rattle.paths.specs.Path.{Hung, MovesIs, CanBacktrack, Backtracks};
 
+use layout::node_of;
+
 // How many edges lead from the root to a node.
 pub fn moves(tree: &[u32], node: usize) -> usize
     requires { Hung tree.now node }
@@ -16,7 +18,7 @@ pub fn moves(tree: &[u32], node: usize) -> usize
     let mut at = node;
     // No index is counted: the next node is the parent.
     while 0 < at {
-        at = layout::node_parent(tree, at) as usize;
+        at = node_of(tree, at).parent() as usize;
         moves += 1;
     }
     moves
@@ -28,13 +30,14 @@ pub fn backtrack(words: &[u32], tree: &[u32], node: usize, path: &mut [u32]) -> 
     requires { CanBacktrack words.now tree.now node (length path.old) }
     ensures { Backtracks words.now tree.now (direction_in words.now) node path.old result path.new }
 {
-    let vertex = layout::node_vertex(words, tree, node);
+    let own = node_of(tree, node);
+    let vertex = own.vertex(words);
     if node == 0 {
         path[0] = vertex;
         return 1;
     }
-    let parent = layout::node_parent(tree, node) as usize;
-    let edge = layout::node_edge(tree, node);
+    let parent = own.parent() as usize;
+    let edge = own.edge();
     if words[layout::DIRECTION] == 0 {
         let written = backtrack(words, tree, parent, path);
         path[written] = edge;

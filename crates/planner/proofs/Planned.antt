@@ -20,8 +20,8 @@ use Rattle.model.proofs.Replies.{answered-refused}
 use Rattle.layout.specs.Read.{read_cache}
 use Rattle.layout.specs.Sound.{sound_wordsb}
 use Rattle.unchecked.specs.declared.SearchRun.{SearchRun}
-use Rattle.unchecked.specs.Shown.{Shows}
-use Rattle.unchecked.specs.Retrace.{retrace_shown, RetracesShown}
+use Rattle.memory.specs.Standing.{Shows}
+use Rattle.unchecked.specs.Retrace.{retrace_shown}
 use Rattle.unchecked.specs.Run.{steps_of, RunsToEnd, RunsAfter, Runs}
 use Rattle.dijkstra.specs.Calls.{initialize_if, initialize_words, Initializing, retrace_words, Retracing, after_retrace}
 use Rattle.dijkstra.proofs.Histories.{retrace-is}
@@ -137,7 +137,7 @@ run-shows {ws} {ss} {gs} {r} {left} h = go h.opened h.after
     go (Ok s) k = k.shows
 
 module _ (ws ss gs p : List ℕ) (ok : sound_wordsb ws ≡ true) {r : SearchRun} {left : List ℕ} (h : Runs ws ss gs r left)
-    (t : Result ℕ Refusal) {q : List ℕ} (k : RetracesShown left r.shown p t q) where
+    (t : Result ℕ Refusal) {q : List ℕ} (k : after_retrace t q ≡ retrace_shown left r.shown p) where
   abbrev Meets : SearchRun → Bool → List ℕ → List ℕ → Type 0
   Meets x b l z = Planning ws ss gs p (record { answer = x.answer; has_path = b; waits = x.waits; tickets = x.tickets; search = x.search }) l z
 

@@ -6,6 +6,7 @@ ghost use Rattle.std.specs.Prelude.{◌≡◌};
 ghost use Rattle.planner.specs.Solve.{Solving};
 ghost use Rattle.planner.specs.Plan.{Planning, not_planned};
 
+use memory::held_in;
 use model::{Planned, Refusal, Search, StepsTaken};
 
 // One step more than a search of 64 trees and 2,048 edges waits: 1 + 64 × (1 + 2,048) waits, and then its answer.
@@ -38,7 +39,7 @@ pub fn plan(words: &mut [u32], starts: &[u32], goals: &[u32], path: &mut [u32]) 
         return not_planned(Refusal::Unsound);
     }
     let run = unchecked::run_search(words, starts, goals);
-    let retraced = unchecked::shown::retrace_shown(words, run.shown, path);
+    let retraced = unchecked::shown::retrace_shown(held_in(words, run.shown), path);
     Planned {
         answer: run.answer,
         has_path: retraced.is_ok(),

@@ -16,8 +16,8 @@ use Rattle.put_text.proofs.Decimals.{decimal-length}
 abbrev pub field : ℕ → List ℕ
 field n = decimal n ++ (44 ∷ [])
 
-pub field-length : (n : ℕ) → length (field n) ≡ length (decimal n) + 1
-field-length n = length-append (decimal n) (44 ∷ [])
+pub field_length : (n : ℕ) → length (field n) ≡ length (decimal n) + 1
+field_length n = length-append (decimal n) (44 ∷ [])
 
 pub vertex-parts : (v c : ℕ) → vertex_text v c ≡ (77 ∷ 44 ∷ []) ++ (field v ++ (initial_text c ++ (10 ∷ [])))
 unfolding vertex_text
@@ -34,19 +34,19 @@ initial-length c = go (eqb c absent)
     go true = omega arith
     go false = decimal-length c
 
-pub vertex-length : (v c : ℕ) → length (vertex_text v c) ≡ 2 + (length (decimal v) + (1 + (length (initial_text c) + 1)))
+pub vertex_length : (v c : ℕ) → length (vertex_text v c) ≡ 2 + (length (decimal v) + (1 + (length (initial_text c) + 1)))
 unfolding vertex_text
-vertex-length v c =
+vertex_length v c =
     omega (arith, length-append (decimal v) (44 ∷ (initial_text c ++ (10 ∷ []))), length-append (initial_text c) (10 ∷ []))
 
-pub edge-length : (m n c : ℕ) → length (edge_text (record { from = m; to = n; cost = c }))
+pub edge_length : (m n c : ℕ) → length (edge_text (record { from = m; to = n; cost = c }))
     ≡ 2 + (length (decimal m) + (1 + (length (decimal n) + (1 + (length (decimal c) + 1)))))
 unfolding edge_text
-edge-length m n c =
+edge_length m n c =
     omega (arith, length-append (decimal m) (44 ∷ (decimal n ++ (44 ∷ (decimal c ++ (10 ∷ []))))), length-append (decimal n) (44 ∷ (decimal c ++ (10 ∷ []))), length-append (decimal c) (10 ∷ []))
 
 pub vertex-most : (v c : ℕ) → length (vertex_text v c) ≤ 24
-vertex-most v c = omega (arith, vertex-length v c, decimal-length v, initial-length c)
+vertex-most v c = omega (arith, vertex_length v c, decimal-length v, initial-length c)
 
 pub edge-most : (m n c : ℕ) → length (edge_text (record { from = m; to = n; cost = c })) ≤ 35
-edge-most m n c = omega (arith, edge-length m n c, decimal-length m, decimal-length n, decimal-length c)
+edge-most m n c = omega (arith, edge_length m n c, decimal-length m, decimal-length n, decimal-length c)

@@ -2,7 +2,7 @@
 -- Assumes nothing.
 use Rattle.std.specs.Prelude.{◌≡◌, List, ◌++◌, ℕ, ◌+◌, ◌<◌, length, take, drop, eqb}
 use Rattle.model.specs.Graph.{absent}
-use Rattle.text.specs.Print.{decimal, initial_by}
+use Rattle.text.specs.Print.{initial_by}
 
 -- out with a text in place of the bytes from at on
 abbrev pub puts : List ℕ → ℕ → List ℕ → List ℕ
@@ -18,12 +18,6 @@ abbrev pub Written : ℕ → ℕ → ℕ → Type 0
 Written m n k = (m < 10000000000) × (n < 10000000000) × (k < 10000000000)
 
 -- ---- what the functions beneath promise each other
-
--- the digits of n are the last of ten bytes
-pub record DigitsOf (n : ℕ) (bytes : List ℕ) (from : ℕ) : Type 0 where
-  pub room : length bytes ≡ 10
-  pub inside : from < 10
-  pub digits : drop from bytes ≡ decimal n
 
 -- an initial cost, as a vertex line has it
 abbrev pub initial_text : ℕ → List ℕ

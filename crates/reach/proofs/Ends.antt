@@ -1,6 +1,7 @@
 -- The ends of a vertex's edges, marked one by one.
 -- Assumes nothing.
 use mathlib.Core.Path.{◌≡◌, refl, sym, ap, ap₂, ◌∙◌}
+use mathlib.Core.Bool.{Bool, true, false}
 use mathlib.Core.List.Memᴰ
 use mathlib.Core.List.{List, [], ◌∷◌, Memᴰ}
 use Prim.Native.Nat.{ℕ, suc, ◌+◌, ◌-◌, ◌<◌, ◌≤◌}
@@ -39,18 +40,18 @@ abbrev numbers_in : ℕ → ℕ → List ℕ → List ℕ
 numbers_in vs es ws = mid_of (numbers_at vs es) (slots_at vs es - numbers_at vs es) ws
 
 -- a cursor over the edges of vertex v, and the ends of the ones before it are marked
-pub record Ending (vs es : ℕ) (ws : List ℕ) (v : ℕ) (m l : List ℕ) (c : ℕ) (m' l' : List ℕ) (c' : ℕ) (at : SimpleGraphEdges) : Type 0 where
-  pub can : CanMarkEnds vs es ws v m l c
+pub record Ending (vs es : ℕ) (ws : List ℕ) (v : ℕ) (m : List Bool) (l : List ℕ) (m' : List Bool) (l' : List ℕ) (at : SimpleGraphEdges) : Type 0 where
+  pub can : CanMarkEnds vs es ws v m l
   pub numbers : at.numbers.now ≡ numbers_in vs es ws
   pub ends : at.end ≡ first_place (domain_of vs es ws) v + length (choices (domain_of vs es ws) v)
   pub above : first_place (domain_of vs es ws) v ≤ at.place
-  pub explored : Explored (graph_in vs es ws) m' l' c'
-  pub done : (j : ℕ) → j < at.place - first_place (domain_of vs es ws) v → get_or m' (to (graph_in vs es ws) (get_or (choices (domain_of vs es ws) v) j 0)) 0 ≡ 1
-  pub stay : (x : ℕ) → get_or m x 0 ≡ 1 → get_or m' x 0 ≡ 1
-  pub more : c ≤ c'
-  pub keeps : (i : ℕ) → i < c → get_or l' i 0 ≡ get_or l i 0
+  pub explored : Explored (graph_in vs es ws) m' l'
+  pub done : (j : ℕ) → j < at.place - first_place (domain_of vs es ws) v → get_or m' (to (graph_in vs es ws) (get_or (choices (domain_of vs es ws) v) j 0)) false ≡ true
+  pub stay : (x : ℕ) → get_or m x false ≡ true → get_or m' x false ≡ true
+  pub more : length l ≤ length l'
+  pub keeps : (i : ℕ) → i < length l → get_or l' i 0 ≡ get_or l i 0
 
-module _ {vs es : ℕ} {ws : List ℕ} {v : ℕ} {m l : List ℕ} {c : ℕ} (h : CanMarkEnds vs es ws v m l c) where
+module _ {vs es : ℕ} {ws : List ℕ} {v : ℕ} {m : List Bool} {l : List ℕ} (h : CanMarkEnds vs es ws v m l) where
   abbrev g : Graph
   g = graph_in vs es ws
 
@@ -85,7 +86,7 @@ module _ {vs es : ℕ} {ws : List ℕ} {v : ℕ} {m l : List ℕ} {c : ℕ} (h :
         ∙ h.held.place (v + 1) (omega (arith, vertex-in))
         ∙ next_place d v
 
-    pub ending-none : Ending vs es ws v m l c m l c at
+    pub ending-none : Ending vs es ws v m l m l at
     ending-none = record {
       can = h;
       numbers =
@@ -102,7 +103,7 @@ module _ {vs es : ℕ} {ws : List ℕ} {v : ℕ} {m l : List ℕ} {c : ℕ} (h :
       keeps = λ i k. refl;
     }
 
-module _ {vs es : ℕ} {ws : List ℕ} {v : ℕ} {m l : List ℕ} {c : ℕ} {m' l' : List ℕ} {c' : ℕ} {at : SimpleGraphEdges} (i : Ending vs es ws v m l c m' l' c' at) where
+module _ {vs es : ℕ} {ws : List ℕ} {v : ℕ} {m : List Bool} {l : List ℕ} {m' : List Bool} {l' : List ℕ} {at : SimpleGraphEdges} (i : Ending vs es ws v m l m' l' at) where
   abbrev graph : Graph
   graph = graph_in vs es ws
 
@@ -128,13 +129,13 @@ module _ {vs es : ℕ} {ws : List ℕ} {v : ℕ} {m l : List ℕ} {c : ℕ} {m' 
   last_fits : at.end ≤ es
   last_fits = omega (arith, i.ends, places-fit dom v inside i.can.held.accepted, edge-count-in vs es ws)
 
-  pub ending-all : {next : SimpleGraphEdges} → Advances at None next → MarksEnds graph v m l c m' l' c'
+  pub ending-all : {next : SimpleGraphEdges} → Advances at None next → MarksEnds graph v m l m' l'
   ending-all said = record {
     explored = i.explored;
     ends = λ e u leaves.
         let stop : at.end ≤ at.place = end-given (omega (arith, numbers-count, last_fits)) said in
         let p = place_of its e (choices-has dom i.can.held.accepted v e u leaves) in
-        ap (λ (x : ℕ). get_or m' (to graph x) 0) (sym p.2) ∙ i.done p.0 (omega (arith, p.1, i.ends));
+        ap (λ (x : ℕ). get_or m' (to graph x) false) (sym p.2) ∙ i.done p.0 (omega (arith, p.1, i.ends));
     stay = i.stay;
     more = i.more;
     keeps = i.keeps;
@@ -183,14 +184,14 @@ module _ {vs es : ℕ} {ws : List ℕ} {v : ℕ} {m l : List ℕ} {c : ℕ} {m' 
       end-in : y < vertex_count graph
       end-in = omega (arith, end_is, i.can.held.accepted.enters e leaves.0)
 
-      pub can-mark-end : Listed m' l' c' × (y < vertex_limit)
+      pub can-mark-end : Listed m' l' × (y < vertex_limit)
       can-mark-end = (i.explored.listed, omega (arith, end-in, vertices i.can, i.can.held.sized.vertices))
 
-      module _ {m'' l'' : List ℕ} {c'' : ℕ} (one : MarksOne m' l' c' y m'' l'' c'') where
-        stays : (x : ℕ) → get_or m' x 0 ≡ 1 → get_or m'' x 0 ≡ 1
+      module _ {m'' : List Bool} {l'' : List ℕ} (one : MarksOne m' l' y m'' l'') where
+        stays : (x : ℕ) → get_or m' x false ≡ true → get_or m'' x false ≡ true
         stays = one-stays i.explored one
 
-        pub ending-one : Ending vs es ws v m l c m'' l'' c'' next
+        pub ending-one : Ending vs es ws v m l m'' l'' next
         ending-one = record {
           can = i.can;
           numbers = ap (λ (x : Bor (List ℕ)). x.now) said.numbers ∙ i.numbers;
@@ -201,9 +202,9 @@ module _ {vs es : ℕ} {ws : List ℕ} {v : ℕ} {m l : List ℕ} {c : ℕ} {m' 
               (rw end_is (reach-on graph v e (i.can.explored.reached v i.can.marked) leaves.0 leaves.1));
           done = λ k b. elim (ℕ_discrete k j) [
             | yes q ↦
-                ap (λ (x : ℕ). get_or m'' (to graph (get_or its x 0)) 0) q
-                ∙ ap (λ (x : ℕ). get_or m'' (to graph x) 0) (sym edge-is)
-                ∙ ap (λ (x : ℕ). get_or m'' x 0) (sym end_is)
+                ap (λ (x : ℕ). get_or m'' (to graph (get_or its x 0)) false) q
+                ∙ ap (λ (x : ℕ). get_or m'' (to graph x) false) (sym edge-is)
+                ∙ ap (λ (x : ℕ). get_or m'' x false) (sym end_is)
                 ∙ one-marked i.explored one can-mark-end.1
             | no n ↦ stays _ (i.done k (omega (arith, i.above, found.after)))
           ];

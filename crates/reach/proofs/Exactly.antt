@@ -1,14 +1,14 @@
--- The marks are 1 exactly at the vertices that some path leads to.
+-- The marks are exactly at the vertices that some path leads to.
 -- Assumes nothing.
 use mathlib.Core.Path.{◌≡◌, refl, sym, ap, ◌∙◌, subst}
 use mathlib.Core.Logic.{◌⊎◌, inl, inr}
-use mathlib.Core.Bool.{Bool, true, false, cond}
+use mathlib.Core.Bool.{Bool, true, false, not, cond, true≢false}
 use mathlib.Core.List.Memᴰ
 use mathlib.Core.List.{List, [], ◌∷◌, ◌++◌, Memᴰ}
 use Prim.Native.Nat.{ℕ, zero, suc, ◌<◌, ◌≤◌}
 use native.Mathlib.Decide.{dec_lt, ℕ_discrete}
 use native.Mathlib.Omega.{arith}
-use borrow.Author.Tests.{eqb-true, eq-eqb, ne_eqb}
+use borrow.Author.Tests.{eq-eqb, ne_eqb}
 use lib.Dec.{eqb}
 use lib.ListN.{length, get_or, set, length-map, get_or-map, get_or-eq_default}
 use lib.Seq.{get_or-set_same}
@@ -17,7 +17,7 @@ use Rattle.model.proofs.Paths.{leads-snoc}
 use Rattle.model.proofs.Choices.{in-use-mem, in-use-has}
 use Rattle.reach.specs.Reach.{Reachable, start_marks, along, along_all, spread, passes, reach_marks, ReachedExactly, AreMarks}
 use Rattle.reach.specs.Walk.{mark_count}
-use Rattle.reach.proofs.Marks.{Bits, count-le, set-marks, Grows, grows-refl, grows-trans, grows-set}
+use Rattle.reach.proofs.Marks.{count-le, set-marks, Grows, grows-refl, grows-trans, grows-set}
 
 -- ---- paths
 
@@ -34,33 +34,26 @@ reach-on g v l r u e = record {
 }
 
 -- marks with the starts, and that edges do not lead out of, are at every vertex that a path leads to
-pub reach-marked : (g : Graph) (m : List ℕ) → ((v : ℕ) → v < vertex_count g → MayStart forward g v → get_or m v 0 ≡ 1)
-    → ((l : ℕ) → Usable g l → get_or m (from g l) 0 ≡ 1 → get_or m (to g l) 0 ≡ 1) → (v : ℕ) → Reachable g v → get_or m v 0 ≡ 1
+pub reach-marked : (g : Graph) (m : List Bool) → ((v : ℕ) → v < vertex_count g → MayStart forward g v → get_or m v false ≡ true)
+    → ((l : ℕ) → Usable g l → get_or m (from g l) false ≡ true → get_or m (to g l) false ≡ true) → (v : ℕ) → Reachable g v → get_or m v false ≡ true
 reach-marked g m starts closed v r = follow r.start r.edges r.leads (starts r.start r.vertex r.allowed)
   where
-    follow : (a : ℕ) (ls : List ℕ) → Leads g a ls v → get_or m a 0 ≡ 1 → get_or m v 0 ≡ 1
+    follow : (a : ℕ) (ls : List ℕ) → Leads g a ls v → get_or m a false ≡ true → get_or m v false ≡ true
     follow a [] e h = rw (← e) h
-    follow a (l ∷ ls) e h = follow (to g l) ls e.2 (closed l e.0 (ap (λ (x : ℕ). get_or m x 0) e.1 ∙ h))
+    follow a (l ∷ ls) e h = follow (to g l) ls e.2 (closed l e.0 (ap (λ (x : ℕ). get_or m x false) e.1 ∙ h))
 
 -- ---- the starts
 
-start-mark : (g : Graph) (v : ℕ) → get_or (start_marks g) v 0 ≡ cond (eqb (get_or g.initial v absent) absent) 0 1
+start-mark : (g : Graph) (v : ℕ) → get_or (start_marks g) v false ≡ not (eqb (get_or g.initial v absent) absent)
 unfolding start_marks
-start-mark g v = get_or-map (λ (c : ℕ). cond {A = ℕ} (eqb c absent) 0 1) g.initial v absent
+start-mark g v = get_or-map (λ (c : ℕ). not (eqb c absent)) g.initial v absent
 
-start-marked : (g : Graph) (v : ℕ) → MayStart forward g v → get_or (start_marks g) v 0 ≡ 1
+start-marked : (g : Graph) (v : ℕ) → MayStart forward g v → get_or (start_marks g) v false ≡ true
 start-marked g v s = start-mark g v ∙ rw (ne_eqb (get_or g.initial v absent) absent s)
 
-start-bits : (g : Graph) → Bits (start_marks g)
-start-bits g v = go (eqb (get_or g.initial v absent) absent) (start-mark g v)
-  where
-    go : (b : Bool) → get_or (start_marks g) v 0 ≡ cond b 0 1 → get_or (start_marks g) v 0 ≤ 1
-    go true e = omega (arith, e)
-    go false e = omega (arith, e)
-
-start-reached : (g : Graph) (v : ℕ) → get_or (start_marks g) v 0 ≡ 1 → Reachable g v
+start-reached : (g : Graph) (v : ℕ) → get_or (start_marks g) v false ≡ true → Reachable g v
 start-reached g v e = elim (ℕ_discrete (get_or g.initial v absent) absent) [
-  | yes z ↦ absurd (let none : get_or (start_marks g) v 0 ≡ 0 = start-mark g v ∙ rw z in omega arith)
+  | yes z ↦ absurd (true≢false (sym e ∙ start-mark g v ∙ ap not (eq-eqb (get_or g.initial v absent) absent z)))
   | no n ↦ elim (dec_lt v (vertex_count g)) [
     | yes h ↦ reach-start g v h n
     | no h ↦ absurd (n (get_or-eq_default g.initial absent (omega arith)))
@@ -74,53 +67,53 @@ start-length g = length-map g.initial _
 -- ---- one edge, and many
 
 module _ (g : Graph) where
-  along-grows : (l : ℕ) (m : List ℕ) → Bits m → Grows m (along g l m)
+  along-grows : (l : ℕ) (m : List Bool) → Grows m (along g l m)
   unfolding along
-  along-grows l m b = go (eqb (get_or m (from g l) 0) 1)
+  along-grows l m = go (get_or m (from g l) false)
     where
-      go : (t : Bool) → Grows m (cond t (set m (to g l) 1) m)
-      go true = grows-set m (to g l) b
-      go false = grows-refl m b
+      go : (t : Bool) → Grows m (cond t (set m (to g l) true) m)
+      go true = grows-set m (to g l)
+      go false = grows-refl m
 
-  all-grows : (ls : List ℕ) (m : List ℕ) → Bits m → Grows m (along_all g ls m)
+  all-grows : (ls : List ℕ) (m : List Bool) → Grows m (along_all g ls m)
   unfolding along_all
-  all-grows [] m b = grows-refl m b
-  all-grows (l ∷ ls) m b = let a = along-grows l m b in grows-trans a (all-grows ls (along g l m) a.bits)
+  all-grows [] m = grows-refl m
+  all-grows (l ∷ ls) m = grows-trans (along-grows l m) (all-grows ls (along g l m))
 
   -- a pass that changes nothing
-  all_closed : (ls : List ℕ) (m : List ℕ) → Bits m → along_all g ls m ≡ m → (l : ℕ) → Memᴰ l ls → get_or m (from g l) 0 ≡ 1 → to g l < length m → get_or m (to g l) 0 ≡ 1
+  all_closed : (ls : List ℕ) (m : List Bool) → along_all g ls m ≡ m → (l : ℕ) → Memᴰ l ls → get_or m (from g l) false ≡ true → to g l < length m → get_or m (to g l) false ≡ true
   unfolding along_all
-  all_closed [] m b e l k o h = absurd (Memᴰ.not-nil k)
-  all_closed (x ∷ xs) m b e l k o h = go (all_closed xs m b) (Memᴰ.cases_cons k)
+  all_closed [] m e l k o h = absurd (Memᴰ.not-nil k)
+  all_closed (x ∷ xs) m e l k o h = go (all_closed xs m) (Memᴰ.cases_cons k)
     where
       first : Grows m (along g x m)
-      first = along-grows x m b
+      first = along-grows x m
 
       same : along g x m ≡ m
-      same = first.same (omega (arith, first.more, (all-grows xs (along g x m) first.bits).more, ap mark_count e))
+      same = first.same (omega (arith, first.more, (all-grows xs (along g x m)).more, ap mark_count e))
 
-      go : (along_all g xs m ≡ m → (y : ℕ) → Memᴰ y xs → get_or m (from g y) 0 ≡ 1 → to g y < length m → get_or m (to g y) 0 ≡ 1)
-          → (l ≡ x) ⊎ Memᴰ l xs → get_or m (to g l) 0 ≡ 1
+      go : (along_all g xs m ≡ m → (y : ℕ) → Memᴰ y xs → get_or m (from g y) false ≡ true → to g y < length m → get_or m (to g y) false ≡ true)
+          → (l ≡ x) ⊎ Memᴰ l xs → get_or m (to g l) false ≡ true
       go ih (inl z) =
-          let now : set m (to g l) 1 ≡ m = sym (rw (eq-eqb (get_or m (from g l) 0) 1 o)) ∙ ap (λ (y : ℕ). along g y m) z ∙ same in
-          ap (λ (n : List ℕ). get_or n (to g l) 0) (sym now) ∙ get_or-set_same m (to g l) 1 0 h
+          let now : set m (to g l) true ≡ m = ap (λ (b : Bool). cond b (set m (to g l) true) m) (sym o) ∙ ap (λ (y : ℕ). along g y m) z ∙ same in
+          ap (λ (n : List Bool). get_or n (to g l) false) (sym now) ∙ get_or-set_same m (to g l) true false h
       go ih (inr r) = ih (sym (ap (along_all g xs) same) ∙ e) l r o h
 
-  abbrev Reached : List ℕ → Type 0
-  Reached m = (v : ℕ) → get_or m v 0 ≡ 1 → Reachable g v
+  abbrev Reached : List Bool → Type 0
+  Reached m = (v : ℕ) → get_or m v false ≡ true → Reachable g v
 
-  along-reached : (l : ℕ) (m : List ℕ) → Usable g l → Reached m → Reached (along g l m)
+  along-reached : (l : ℕ) (m : List Bool) → Usable g l → Reached m → Reached (along g l m)
   unfolding along
-  along-reached l m u r = go (eqb (get_or m (from g l) 0) 1) refl
+  along-reached l m u r = go (get_or m (from g l) false) refl
     where
-      go : (t : Bool) → eqb (get_or m (from g l) 0) 1 ≡ t → Reached (cond t (set m (to g l) 1) m)
+      go : (t : Bool) → get_or m (from g l) false ≡ t → Reached (cond t (set m (to g l) true) m)
       go true e = λ v o. elim (set-marks m (to g l) v o) [
-        | inl z ↦ subst (Reachable g) (sym z) (reach-on g (from g l) l (r (from g l) (eqb-true (get_or m (from g l) 0) 1 e)) u refl)
+        | inl z ↦ subst (Reachable g) (sym z) (reach-on g (from g l) l (r (from g l) e) u refl)
         | inr h ↦ r v h
       ]
       go false e = r
 
-  all-reached : (ls : List ℕ) (m : List ℕ) → ((l : ℕ) → Memᴰ l ls → Usable g l) → Reached m → Reached (along_all g ls m)
+  all-reached : (ls : List ℕ) (m : List Bool) → ((l : ℕ) → Memᴰ l ls → Usable g l) → Reached m → Reached (along_all g ls m)
   unfolding along_all
   all-reached [] m u r = r
   all-reached (l ∷ ls) m u r =
@@ -128,21 +121,21 @@ module _ (g : Graph) where
 
   -- ---- passes
 
-  spread-grows : (m : List ℕ) → Bits m → Grows m (spread g m)
+  spread-grows : (m : List Bool) → Grows m (spread g m)
   unfolding spread
-  spread-grows m b = all-grows (edges_in_use g) m b
+  spread-grows m = all-grows (edges_in_use g) m
 
   passes-grow : (n : ℕ) → Grows (start_marks g) (passes g n)
   unfolding passes
-  passes-grow zero = grows-refl (start_marks g) (start-bits g)
-  passes-grow (suc n) = let a = passes-grow n in grows-trans a (spread-grows (passes g n) a.bits)
+  passes-grow zero = grows-refl (start_marks g)
+  passes-grow (suc n) = grows-trans (passes-grow n) (spread-grows (passes g n))
 
   passes-reached : (n : ℕ) → Reached (passes g n)
   unfolding passes spread
   passes-reached zero = start-reached g
   passes-reached (suc n) = all-reached (edges_in_use g) (passes g n) (in-use-mem g) (passes-reached n)
 
-  abbrev Settled : List ℕ → Type 0
+  abbrev Settled : List Bool → Type 0
   Settled m = spread g m ≡ m
 
   settles : (n : ℕ) → Settled (passes g n) ⊎ (n ≤ mark_count (passes g n))
@@ -150,11 +143,11 @@ module _ (g : Graph) where
   settles zero = inr (omega arith)
   settles (suc n) = go (settles n)
     where
-      m : List ℕ
+      m : List Bool
       m = passes g n
 
       next : Grows m (spread g m)
-      next = spread-grows m (passes-grow n).bits
+      next = spread-grows m
 
       go : Settled m ⊎ (n ≤ mark_count m) → Settled (spread g m) ⊎ (suc n ≤ mark_count (spread g m))
       go (inl e) = inl (ap (spread g) e)
@@ -163,31 +156,27 @@ module _ (g : Graph) where
         | no ne ↦ inr (omega (arith, next.more))
       ]
 
-  marks-length : length (reach_marks g) ≡ vertex_count g
-  unfolding reach_marks
-  marks-length = (passes-grow (vertex_count g)).len ∙ start-length g
-
   settled : Settled (reach_marks g)
   unfolding reach_marks
   settled = go (settles (vertex_count g))
     where
-      m : List ℕ
+      m : List Bool
       m = passes g (vertex_count g)
 
       grown : Grows (start_marks g) m
       grown = passes-grow (vertex_count g)
 
       next : Grows m (spread g m)
-      next = spread-grows m grown.bits
+      next = spread-grows m
 
       go : Settled m ⊎ (vertex_count g ≤ mark_count m) → Settled m
       go (inl e) = e
       go (inr h) =
-          next.same (omega (arith, next.more, count-le (spread g m) next.bits, next.len, grown.len, start-length g))
+          next.same (omega (arith, next.more, count-le (spread g m), next.len, grown.len, start-length g))
 
 pub are-marks : AreMarks
 unfolding reach_marks
-are-marks g = record { len = marks-length g; bits = (passes-grow g (vertex_count g)).bits }
+are-marks g = (passes-grow g (vertex_count g)).len ∙ start-length g
 
 pub reached-exactly : ReachedExactly
 unfolding reach_marks spread
@@ -195,6 +184,6 @@ reached-exactly g ok v h = (
   passes-reached g (vertex_count g) v,
   reach-marked g (reach_marks g)
       (λ a i s. (passes-grow g (vertex_count g)).stay a (start-marked g a s))
-      (λ l u o. all_closed g (edges_in_use g) (reach_marks g) (are-marks g).bits (settled g) l (in-use-has g l u) o (omega (arith, ok.enters l u, marks-length g)))
+      (λ l u o. all_closed g (edges_in_use g) (reach_marks g) (settled g) l (in-use-has g l u) o (omega (arith, ok.enters l u, are-marks g)))
       v,
 )

@@ -3,8 +3,6 @@
 
 #![tactic(auto)]
 
-use std::io;
-
-fn main(rt: HostRuntime) -> io::Result<()> {
-    script::run(&rt)
+fn main() {
+    script::run();
 }

@@ -6,7 +6,7 @@ use script_lines::fields::Call;
 use script_lines::input::Input;
 use text::fields::Field::Number;
 
-// The text stands at the start of the bytes.
+// The text stands at the start of the bytes. No list: they are lent whole for lines to be read into.
 #[derive(Drop)]
 pub struct Chart {
     bytes: [u8; 65536],

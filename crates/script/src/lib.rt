@@ -11,11 +11,12 @@ mod words;
 use crate::chart::Chart;
 use crate::searches::Searches;
 use crate::words::Words;
+use order_lines::orders::Form;
 use script_lines::answers::Answer;
-use script_lines::fields::{Call, Side, read_call};
+use script_lines::fields::{Call, read_call};
 use script_lines::input::{Input, MAX_BYTES};
 use script_lines::names::Name;
-use std::io;
+use std::fmt::{self, Write};
 
 // What an untouched word holds.
 const UNTOUCHED: u32 = 7;
@@ -30,7 +31,7 @@ struct State {
 }
 
 // Standard input is the script. Each turn is a line, and so takes a byte at least.
-pub fn run(rt: &impl Print) -> io::Result<()> {
+pub fn run() {
     let mut input = Input::new();
     let mut buffer = [0; 4096];
     let mut state = State::new();
@@ -38,20 +39,30 @@ pub fn run(rt: &impl Print) -> io::Result<()> {
         let Some(line) = input.read_line(&mut buffer) else {
             break;
         };
-        match state.answer(line, &mut input) {
-            Some(answer) => println!(rt; "{answer}")?,
-            None => println!(rt; "?")?,
-        }
+        let _unwritten = match state.answer(line, &mut input) {
+            Some(answer) => writeln!(Output, "{answer}"),
+            None => writeln!(Output, "?"),
+        };
     }
-    Ok(())
+}
+
+// Standard output. What cannot be written is passed over, and the lines that follow are answered all the same.
+#[derive(Drop)]
+struct Output;
+
+impl Write for Output {
+    fn write_str(&mut self, s: &str) -> fmt::Result {
+        io::write_all(1, s.as_bytes());
+        Ok(())
+    }
 }
 
 impl State {
     fn new() -> State {
         State {
             chart: Chart::new(),
-            forward: Words::new(Side::Forward),
-            backward: Words::new(Side::Backward),
+            forward: Words::new(Form::Forward),
+            backward: Words::new(Form::Backward),
             searches: Searches::new(),
         }
     }
@@ -65,10 +76,10 @@ impl State {
             backward,
             searches,
         } = self;
-        match (call.name, call.side) {
+        match (call.name, call.form) {
             (Name::Chart, _) => chart.read(&call, input),
-            (_, Some(Side::Forward)) => on_side(&call, chart, forward, searches),
-            (_, Some(Side::Backward)) => on_side(&call, chart, backward, searches),
+            (_, Some(Form::Forward)) => on_side(&call, chart, forward, searches),
+            (_, Some(Form::Backward)) => on_side(&call, chart, backward, searches),
             (_, None) => searches.answer(&call),
         }
     }

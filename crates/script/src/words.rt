@@ -1,8 +1,9 @@
 // The words of one direction, and the lines on them: a cache is opened in them, and they are looked at.
 use crate::UNTOUCHED;
 use crate::sum::sum;
+use order_lines::orders::Form;
 use script_lines::answers::Answer;
-use script_lines::fields::{Call, Side};
+use script_lines::fields::Call;
 use script_lines::names::Name;
 use text::bytes::capped;
 use text::fields::Field::Number;
@@ -12,15 +13,15 @@ pub const WORDS: usize = 16384;
 // The first of the words are lent to the calls.
 #[derive(Drop)]
 pub struct Words {
-    side: Side,
+    form: Form,
     pub words: [u32; WORDS],
     pub lent: usize,
 }
 
 impl Words {
-    pub fn new(side: Side) -> Words {
+    pub fn new(form: Form) -> Words {
         Words {
-            side,
+            form,
             words: [0; WORDS],
             lent: 0,
         }
@@ -34,9 +35,8 @@ impl Words {
     pub fn answer(&mut self, call: &Call<'_>, chart: &[u8]) -> Option<Answer<'_>> {
         match (call.name, call.fields()) {
             (Name::Book, [_, Number(slots), Number(lent)]) => {
-                self.open(self.side as u32, *slots, *lent, chart)
+                self.open(self.form as u32, *slots, *lent, chart)
             }
-            // With any number as direction.
             (Name::As, [_, Number(direction), Number(slots), Number(lent)]) => {
                 self.open(capped(*direction), *slots, *lent, chart)
             }
@@ -49,7 +49,7 @@ impl Words {
         }
     }
 
-    // With so many words lent, where there are as many.
+    // With so many words lent, where there are as many. A script may give any number as direction.
     fn open(
         &mut self,
         direction: u32,

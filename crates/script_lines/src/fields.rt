@@ -1,24 +1,17 @@
 // A line: its name, the direction that it is about, and the fields behind its name, which are parted by spaces.
 use crate::names::{Name, read_name};
-use order_lines::orders::{Numbers, read_list};
+use order_lines::orders::{Form, Numbers, read_letter, read_list};
 use text::fields::{Field, Fields, read_fields};
 
 // The longest list.
 const MAX_NUMBERS: usize = 128;
-
-// The direction whose words a line is about.
-#[derive(Clone, Copy, PartialEq, Eq)]
-pub enum Side {
-    Forward,
-    Backward,
-}
 
 // The direction, which is no number, is the first of the fields.
 #[derive(Clone, Copy)]
 pub struct Call<'a> {
     line: &'a [u8],
     pub name: Name,
-    pub side: Option<Side>,
+    pub form: Option<Form>,
     fields: Fields,
 }
 
@@ -31,17 +24,9 @@ pub fn read_call(line: &[u8]) -> Option<Call<'_>> {
     Some(Call {
         line,
         name: read_name(name)?,
-        side: side_of(rest),
+        form: line.split(|b| *b == b' ').nth(1).and_then(read_letter),
         fields: read_fields(rest, b' '),
     })
-}
-
-fn side_of(rest: &[u8]) -> Option<Side> {
-    match rest {
-        [b'F'] | [b'F', b' ', ..] => Some(Side::Forward),
-        [b'B'] | [b'B', b' ', ..] => Some(Side::Backward),
-        _ => None,
-    }
 }
 
 impl Call<'_> {

@@ -8,7 +8,7 @@ use std::iter::once;
 // No input has more bytes, nor more lines.
 pub const MAX_BYTES: usize = 262144;
 
-// The buffer's next byte, where its bytes end, and how often it may still be filled.
+// The buffer's next byte, where its bytes end, and how often it may still be filled. No list: reading fills a buffer that is lent whole.
 #[derive(Drop)]
 pub struct Input {
     buffer: [u8; 65536],

@@ -3,6 +3,7 @@
 #![tactic(auto)]
 
 ghost use Rattle.std.specs.Prelude.{◌≡◌, [], ◌∷◌, map, ◌+◌, ◌≤◌, length, take, drop};
+ghost use Rattle.std.specs.Bool.{then_some};
 ghost use Rattle.std.proofs.lemmas.List.Edits.{sets};
 ghost use Rattle.model.specs.Limits.{list_limit};
 ghost use Rattle.model.specs.Lists.{numbers, upto};
@@ -27,6 +28,13 @@ const ENTRY: usize = 5;
 
 // The words of a record.
 pub const RECORD_WORDS: usize = 390;
+
+// The record in front of the words, if they begin with one.
+pub fn read_record(words: &[u32]) -> Option<Search>
+    ensures { result ≡ then_some (is_record words.now) (Record·decode words.now) }
+{
+    is_record(words).then(|| decode(words))
+}
 
 // Whether the words begin with a record.
 pub fn is_record(words: &[u32]) -> bool
@@ -99,10 +107,7 @@ pub fn decode(words: &[u32]) -> Search
 fn best_of(tag: u32, entry: u32, node: u32) -> Option<BestSolution>
     ensures { result ≡ best_of tag entry node }
 {
-    if tag == 0 {
-        return None;
-    }
-    Some(BestSolution { entry, node })
+    (tag != 0).then_some(BestSolution { entry, node })
 }
 
 fn decode_goals(words: &[u32]) -> [u32; MAX_ENTRIES]
@@ -136,10 +141,7 @@ fn decode_entry(words: &[u32], i: usize) -> TreeMemory
 fn option_of(tag: u32, number: u32) -> Option<u32>
     ensures { result ≡ option_of tag number }
 {
-    if tag == 0 {
-        return None;
-    }
-    Some(number)
+    (tag != 0).then_some(number)
 }
 
 // Writes the record in front of the words; words past it stay.

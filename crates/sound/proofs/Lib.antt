@@ -3,6 +3,7 @@ pub mod Header
 pub mod Held
 pub mod Slots
 pub mod Facts
+pub mod Kept
 pub mod InUse
 pub mod Cache
 pub mod Opened

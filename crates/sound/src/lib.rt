@@ -4,6 +4,8 @@
 
 #![tactic(auto)]
 
+pub mod known;
+
 ghost use Rattle.std.specs.Prelude.{◌≡◌, true, false, ◌+◌, ◌<◌, ◌≤◌, length, replicate};
 ghost use Rattle.model.specs.Limits.{vertex_limit};
 ghost use Rattle.model.specs.Lists.{allb, upto};
@@ -12,8 +14,8 @@ ghost use Rattle.layout.specs.Read.{read_cache, graph_in};
 ghost use Rattle.layout.specs.Sound.{header_tests, initialb, edge_tests, graph_tests, trees_tests, sound_wordsb};
 ghost use Rattle.sound.specs.Check.{CanCheckTrees, HasGraph, TreesIn, treesb};
 
-use layout::GraphSize;
 use layout::slots::slot_words;
+use layout::{GraphSize, edge_of};
 use model::limits::{MAX_COST, MAX_EDGES, MAX_SLOTS, MAX_VERTICES};
 use sound_tree::{is_zero, tree_is_sound};
 
@@ -64,8 +66,7 @@ fn initial_is_sound(words: &[u32], vertex: usize) -> bool
     requires { initial_at + vertex < length words.now }
     ensures { result ≡ initialb (initial_in words.now vertex) }
 {
-    let cost = layout::initial_cost(words, vertex);
-    cost == layout::ABSENT || cost as usize <= MAX_COST
+    layout::initial_cost(words, vertex).is_none_or(|c| c as usize <= MAX_COST)
 }
 
 fn edges_are_sound(words: &[u32], size: GraphSize) -> bool
@@ -76,14 +77,14 @@ fn edges_are_sound(words: &[u32], size: GraphSize) -> bool
 }
 
 #[tactic(auto, using(crate::proofs::Header::edge_reads))]
-fn edge_is_sound(words: &[u32], size: GraphSize, edge: usize) -> bool
-    requires { HasGraph size.vertices size.edges words.now × (edge < size.edges) }
-    ensures { result ≡ allb (edge_tests (graph_in size.vertices size.edges words.now) edge) }
+fn edge_is_sound(words: &[u32], size: GraphSize, number: usize) -> bool
+    requires { HasGraph size.vertices size.edges words.now × (number < size.edges) }
+    ensures { result ≡ allb (edge_tests (graph_in size.vertices size.edges words.now) number) }
 {
-    let vertices = size.vertices;
-    (layout::edge_from(words, vertices, edge) as usize) < vertices
-        && (layout::edge_to(words, vertices, edge) as usize) < vertices
-        && layout::edge_cost(words, vertices, edge) as usize <= MAX_COST
+    let edge = edge_of(words, size.vertices, number);
+    (edge.from as usize) < size.vertices
+        && (edge.to as usize) < size.vertices
+        && edge.cost as usize <= MAX_COST
 }
 
 fn trees_are_sound(words: &[u32]) -> bool

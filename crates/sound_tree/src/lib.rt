@@ -7,19 +7,20 @@ ghost use Rattle.std.proofs.Props.{props};
 ghost use Rattle.model.specs.Limits.{vertex_limit, edge_limit};
 ghost use Rattle.model.specs.Lists.{allb, upto};
 ghost use Rattle.model.specs.Sound.{hangsb, closed_edges, root_tests, hang_allb, closerb, onwardb};
-ghost use Rattle.layout.specs.Layout.{closed_words_at, used_in, queued_in};
+ghost use Rattle.layout.specs.Layout.{used_in, queued_in};
 ghost use Rattle.layout.specs.Read.{tree_in, domain_of};
 ghost use Rattle.layout.specs.Sound.{zerosb, tree_wordsb, spare_tests};
 ghost use Rattle.layout.proofs.StartCosts.{start_once};
-ghost use Rattle.tree.specs.Tree.{tree_of, HasVertex};
+ghost use Rattle.tree.specs.Tree.{tree_of};
 ghost use Rattle.sound_tree.specs.Check.{CanCheck, count_tests, Counted, Hung, QueueWords, QueueTurn, QueueIs, Waits, RootMarked, BegunIs, LeadsOn, tables_tests, node_limit, no_cost};
 
+use layout::{edge_of, node_of};
 use model::limits::{MAX_EDGES, MAX_VERTICES};
 
 // A tree has at most one node more than there are edges.
 const MAX_NODES: usize = 1 + MAX_EDGES;
 
-// More than the evaluation of any node: nothing waits.
+// More than the evaluation of any node: nothing waits. A number, as document 01 has the table, and one that `min` and `<=` take as it is.
 const NO_COST: u64 = 18446744073709551615;
 
 #[tactic(auto, using(crate::proofs::TreeTests::tree_reads, crate::proofs::Nodes::hung_at))]
@@ -75,12 +76,14 @@ impl TreeCheck<'_> {
         if self.vertices <= start as usize {
             return false;
         }
-        let cost = layout::root_cost(self.words, start as usize);
-        cost != layout::ABSENT
-            && layout::node_vertex(self.words, self.tree, 0) == start
-            && layout::node_cost(self.tree, 0) == cost
-            && layout::node_parent(self.tree, 0) == layout::ABSENT
-            && layout::node_edge(self.tree, 0) == layout::ABSENT
+        let Some(cost) = layout::root_cost(self.words, start as usize) else {
+            return false;
+        };
+        let root = node_of(self.tree, 0);
+        root.vertex(self.words) == start
+            && root.cost() == cost
+            && root.parent() == layout::ABSENT
+            && root.edge() == layout::ABSENT
     }
 
     // Each other node hangs on a closed one.
@@ -97,24 +100,22 @@ impl TreeCheck<'_> {
         requires { i < used_in self.tree.now }
         ensures { let c = self.entry in result ≡ hangsb (domain_of c.vertices c.edges c.words.now) (tree_in c.words.now c.vertices c.edges c.tree.now).nodes (tree_in c.words.now c.vertices c.edges c.tree.now).closed i }
     {
-        let parent = layout::node_parent(self.tree, i) as usize;
-        if i <= parent {
+        let node = node_of(self.tree, i);
+        let above = node.parent() as usize;
+        if i <= above {
             return false;
         }
-        let edge = layout::node_edge(self.tree, i) as usize;
-        if self.edges <= edge {
+        let number = node.edge() as usize;
+        if self.edges <= number {
             return false;
         }
-        let from = layout::edge_from(self.words, self.vertices, edge);
-        let cost = layout::node_cost(self.tree, parent) as usize
-            + layout::edge_cost(self.words, self.vertices, edge) as usize;
-        let claimed = layout::node_cost(self.tree, i) as usize;
-        let closer = (self.tree[layout::closed_at(self.edges) + from as usize]) as usize;
-        from == layout::node_vertex(self.words, self.tree, parent)
-            && layout::edge_to(self.words, self.vertices, edge)
-                == layout::node_vertex(self.words, self.tree, i)
-            && claimed == cost
-            && closer == parent + 1
+        let parent = node_of(self.tree, above);
+        let edge = edge_of(self.words, self.vertices, number);
+        let closer = self.tree[layout::closed_at(self.edges) + edge.from as usize] as usize;
+        edge.from == parent.vertex(self.words)
+            && edge.to == node.vertex(self.words)
+            && node.cost() as usize == parent.cost() as usize + edge.cost as usize
+            && closer == above + 1
     }
 
     // Queue words, closed words and edges, with a mark for each node and the least waiting cost of each vertex. At first all marks
@@ -163,14 +164,14 @@ impl TreeCheck<'_> {
             return false;
         }
         marks[node] = true;
-        let vertex = layout::node_vertex(self.words, self.tree, node) as usize;
+        let vertex = node_of(self.tree, node).vertex(self.words) as usize;
         costs[vertex] = costs[vertex].min(queue::evaluation(self.tree, word));
         true
     }
 
     // Each closed word names a node of its vertex that costs no more than any waiting node, so no more than the first.
     fn closed_are_sound(self) -> bool
-        requires { Waits self.edges self.words.now self.tree.now × (closed_words_at self.edges + self.vertices ≤ length self.tree.now) }
+        requires { Waits self.edges self.words.now self.tree.now }
         ensures { result ≡ upto (closerb (tree_of self.entry.words.now self.entry.edges self.entry.tree.now)) self.entry.vertices }
     {
         (0..self.vertices).all(|v| self.closed_word_is_sound(v))
@@ -178,7 +179,7 @@ impl TreeCheck<'_> {
 
     #[tactic(auto, using(crate::proofs::Closers::closer_reads))]
     fn closed_word_is_sound(self, vertex: usize) -> bool
-        requires { Waits self.edges self.words.now self.tree.now × HasVertex self.edges self.tree.now vertex }
+        requires { Waits self.edges self.words.now self.tree.now × (vertex < self.vertices) }
         ensures { result ≡ closerb (tree_of self.entry.words.now self.entry.edges self.entry.tree.now) vertex }
     {
         let word = self.tree[layout::closed_at(self.edges) + vertex];
@@ -188,7 +189,7 @@ impl TreeCheck<'_> {
         let node = word - 1;
         let first = self.tree[layout::queue_at(self.edges)];
         node < self.tree[layout::NODES]
-            && layout::node_vertex(self.words, self.tree, node as usize) as usize == vertex
+            && node_of(self.tree, node as usize).vertex(self.words) as usize == vertex
             && (self.tree[layout::QUEUED] == 0
                 || queue::evaluation(self.tree, node) <= queue::evaluation(self.tree, first))
     }
@@ -201,8 +202,8 @@ impl TreeCheck<'_> {
         let closed = layout::closed_at(self.edges);
         let mut count = 0;
         for e in 0..self.edges {
-            let from = layout::edge_from(self.words, self.vertices, e) as usize;
-            if self.tree[closed + from] != 0 {
+            let from = edge_of(self.words, self.vertices, e).from;
+            if self.tree[closed + from as usize] != 0 {
                 count += 1;
             }
         }
@@ -227,19 +228,18 @@ impl TreeCheck<'_> {
         (0..self.edges).all(|e| self.edge_leads_on(costs, e))
     }
 
-    fn edge_leads_on(self, costs: &[u64], edge: usize) -> bool
-        requires { LeadsOn self.vertices self.edges self.words.now self.tree.now costs.now × (edge < self.edges) }
-        ensures { let c = self.entry in result ≡ onwardb (domain_of c.vertices c.edges c.words.now) (tree_in c.words.now c.vertices c.edges c.tree.now) edge }
+    fn edge_leads_on(self, costs: &[u64], number: usize) -> bool
+        requires { LeadsOn self.vertices self.edges self.words.now self.tree.now costs.now × (number < self.edges) }
+        ensures { let c = self.entry in result ≡ onwardb (domain_of c.vertices c.edges c.words.now) (tree_in c.words.now c.vertices c.edges c.tree.now) number }
     {
         let closed = layout::closed_at(self.edges);
-        let from = layout::edge_from(self.words, self.vertices, edge) as usize;
-        let word = self.tree[closed + from];
+        let edge = edge_of(self.words, self.vertices, number);
+        let word = self.tree[closed + edge.from as usize];
         if word == 0 {
             return true;
         }
-        let sum = queue::evaluation(self.tree, word - 1)
-            + queue::weight_of(layout::edge_cost(self.words, self.vertices, edge));
-        let to = layout::edge_to(self.words, self.vertices, edge) as usize;
+        let sum = queue::evaluation(self.tree, word - 1) + queue::weight_of(edge.cost);
+        let to = edge.to as usize;
         let reached = self.tree[closed + to];
         (reached != 0 && queue::evaluation(self.tree, reached - 1) <= sum) || costs[to] <= sum
     }

@@ -1,8 +1,8 @@
 -- The lines of a text as `split_inclusive` gives them: each with its LF, and the last maybe without.
 -- Assumes nothing.
-use mathlib.Core.Path.{◌≡◌, refl, subst}
+use mathlib.Core.Path.{◌≡◌, refl, ap, subst}
 use mathlib.Core.Bool.{Bool}
-use mathlib.Core.List.{List, [], ◌∷◌, ◌++◌}
+use mathlib.Core.List.{List, [], ◌∷◌, ◌++◌, map}
 use denote.Bor.{Bor}
 use denote.Param.Members.{Mut}
 use Prim.Native.Nat.{ℕ, ◌+◌, ◌<◌, min}
@@ -10,10 +10,12 @@ use native.Mathlib.Omega.{arith}
 use lib.Dec.{eqb}
 use lib.ListN.{length}
 use Rattle.std.specs.Prelude.{Some, None}
+use Rattle.std.specs.declared.iter.Enumerate.{Enumerate}
 use Rattle.std.specs.declared.option.Option.{Option}
 use Rattle.std.specs.declared.slice.SplitInclusive.{SplitInclusive}
 use Rattle.std.specs.Fn.{CalledAt, ComputesKey}
 use Rattle.std.specs.Iterator.{Yields}
+use Rattle.std.specs.Iterator.Adapters.{enumerate_source, enumerate_count, enumerate_steps}
 use Rattle.std.specs.List.{IsFirstMatchOrLen}
 use Rattle.std.specs.Option.{MatchOption}
 use Rattle.std.specs.Slice.Iter.{split_inclusive_rest, split_inclusive_callee}
@@ -56,3 +58,22 @@ module _ {F : Type 0} {g : Mut F (Bor ℕ × Unit {0}) Bool} {s t : SplitInclusi
 
 pub no_piece : {F : Type 0} (g : Mut F (Bor ℕ × Unit {0}) Bool) {o : Option (Bor (List ℕ))} (u w : SplitInclusive ℕ F) → o ≡ None → Cuts g u o w → length (split_inclusive_rest u) ≡ 0
 no_piece g u w is step = (subst (λ (o : Option (Bor (List ℕ))). Cuts g u o w) is step).0
+
+-- ---- the pieces counted
+
+-- what a counted iterator yields, its source yields without the numbers
+uncounted : {S A : Type 0} (steps : S → Option A → S → Type 0) (xs : List (ℕ × A)) (s t : Enumerate S) → Yields (enumerate_steps steps) s xs t
+    → Yields steps (enumerate_source s) (map (λ x. x.1) xs) (enumerate_source t)
+uncounted steps [] s t had = ap enumerate_source had
+uncounted steps (x ∷ xs) s t had = (enumerate_source had.0, had.1.0, uncounted steps xs had.0 t had.2)
+
+module _ {F : Type 0} {g : Mut F (Bor ℕ × Unit {0}) Bool} {t : SplitInclusive ℕ F} {f : F} {o : Option (ℕ × Bor (List ℕ))} (xs : List (ℕ × Bor (List ℕ))) (s u w : Enumerate (SplitInclusive ℕ F)) where
+  pub counted_cut : (i : ℕ) (x : Bor (List ℕ)) → Yields (enumerate_steps (Cuts g)) s xs u → o ≡ Some (i, x) → enumerate_steps (Cuts g) u o w → enumerate_source s ≡ t → split_inclusive_callee t ≡ f
+      → ((y : ℕ) (b : Bool) (q : F) → CalledAt g f y b q → (q ≡ f) × (b ≡ eqb y 10))
+      → Cut (split_inclusive_rest (enumerate_source u)) x.now (split_inclusive_rest (enumerate_source w)) × (i ≡ enumerate_count u) × (enumerate_count w ≡ enumerate_count u + 1)
+  counted_cut i x had is step same callee test =
+      let next : enumerate_steps (Cuts g) u (Some (i, x)) w = subst (λ (o : Option (ℕ × Bor (List ℕ))). enumerate_steps (Cuts g) u o w) is step in
+      (piece_cut (map (λ x. x.1) xs) (enumerate_source u) (enumerate_source w) x (uncounted (Cuts g) xs s u had) refl next.0 same callee test, next.1, next.2)
+
+pub no_counted : {F : Type 0} (g : Mut F (Bor ℕ × Unit {0}) Bool) {o : Option (ℕ × Bor (List ℕ))} (u w : Enumerate (SplitInclusive ℕ F)) → o ≡ None → enumerate_steps (Cuts g) u o w → length (split_inclusive_rest (enumerate_source u)) ≡ 0
+no_counted g u w is step = no_piece g (enumerate_source u) (enumerate_source w) refl (subst (λ (o : Option (ℕ × Bor (List ℕ))). enumerate_steps (Cuts g) u o w) is step).0

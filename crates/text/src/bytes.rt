@@ -2,9 +2,6 @@
 ghost use Rattle.std.specs.Prelude.{◌≡◌, ◌≤◌, min, length};
 ghost use Rattle.text.specs.Bytes.{place, number_of, digits_from};
 
-// `0`.
-pub const DIGIT_0: usize = 48;
-
 // Where the first `b` of a text stands, or its length.
 pub fn find(s: &[u8], b: u8) -> usize
     ensures { result ≡ place b s.now }
@@ -12,7 +9,8 @@ pub fn find(s: &[u8], b: u8) -> usize
     s.iter().position(|x| *x == b).unwrap_or(s.len())
 }
 
-// A field read as a number: 1 to 10 digits, no leading zero but `0` itself. So it fits 64 bits.
+// A field read as a number: 1 to 10 digits, no leading zero but `0` itself. So it fits 64 bits. By hand: the library's `parse` takes signs
+// and leading zeros.
 #[tactic(auto, unfolding(crate::specs::Bytes::number_of))]
 pub fn read_number(s: &[u8]) -> Option<usize>
     ensures { result ≡ number_of s.now }
@@ -40,7 +38,7 @@ fn digits(s: &[u8]) -> Option<usize>
     Some(v)
 }
 
-// The number, or the greatest of 32 bits.
+// The number, or the greatest of 32 bits: the library's conversion under one name and promise for its callers.
 pub fn capped(n: usize) -> u32
     ensures { result ≡ min 4294967295 n }
 {

@@ -9,7 +9,7 @@ use crate::lines::{Line, read_ended};
 use model::limits::{MAX_COST, MAX_EDGES, MAX_VERTICES};
 use model::{Refusal, Refused};
 
-// Vertices and edges.
+// Vertices and edges, as a text has them so far; the size of a cache's words is `layout::GraphSize`.
 #[derive(Clone, Copy)]
 pub struct Counts {
     pub vertices: usize,
@@ -86,12 +86,11 @@ pub fn judge_text(text: &[u8]) -> Result<Counts, Refused>
         vertices: 0,
         edges: 0,
     };
-    let mut line: usize = 1;
-    for piece in text.split_inclusive(|b| *b == b'\n') {
-        counts = counts
-            .judge(read_ended(piece))
-            .map_err(|refusal| Refused { refusal, line })?;
-        line += 1;
+    for (i, piece) in text.split_inclusive(|b| *b == b'\n').enumerate() {
+        counts = counts.judge(read_ended(piece)).map_err(|refusal| Refused {
+            refusal,
+            line: i + 1,
+        })?;
     }
     Ok(counts)
 }

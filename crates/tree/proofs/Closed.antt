@@ -26,20 +26,6 @@ module _ (l : ℕ) (t : List ℕ) (v a : ℕ) (h : HasVertex l t v) (e : a ≡ c
   pub closed-word : (ws : List ℕ) → closed_at (tree_of ws l t).closed v ≡ get_or t (a + v) 0
   closed-word ws = tree-closed ws (length t - closed_words_at l) l t v (omega arith) ∙ ap (λ (x : ℕ). get_or t (x + v) 0) (sym e)
 
-  -- the same word, by its name
-  named : closed_word_in l t v ≡ get_or t (a + v) 0
-  named = ap (λ (x : ℕ). get_or t (x + v) 0) (sym e)
-
-  pub status-open : get_or t (a + v) 0 ≡ 0 → None ≡ status_of (closed_word_in l t v)
-  status-open z = sym (ap status_of (named ∙ z))
-
-  pub status-closed : get_or t (a + v) 0 ≢ 0 → Some (get_or t (a + v) 0 - 1) ≡ status_of (closed_word_in l t v)
-  status-closed = go (get_or t (a + v) 0) named
-    where
-      go : (n : ℕ) → closed_word_in l t v ≡ n → n ≢ 0 → Some (n - 1) ≡ status_of (closed_word_in l t v)
-      go zero w ne = absurd (ne refl)
-      go (suc n) w ne = ap Some (omega arith) ∙ sym (ap status_of w)
-
 -- the word that a tree has for a vertex
 pub tree-word : (ws : List ℕ) (l : ℕ) (t : List ℕ) (v : ℕ) → HasVertex l t v → closed_at (tree_of ws l t).closed v ≡ closed_word_in l t v
 tree-word ws l t v h = closed-word l t v (closed_words_at l) h refl ws

@@ -11,7 +11,7 @@ ghost use Rattle.layout.specs.Layout.{queued_at, node_at, NodeFits};
 ghost use Rattle.layout.specs.Words.{node_words};
 ghost use Rattle.tree.specs.Tree.{node_of, Formed, PopIs, CanAdd, CanPushNode, Adds, PushesNode};
 
-use crate::partial_keyed_closed_set::status;
+use crate::partial_keyed_closed_set::PartialKeyedClosedSet;
 
 // A node's words.
 #[derive(Clone, Copy)]
@@ -27,7 +27,8 @@ pub fn push_node(tree: &mut [u32], edges: usize, node: Node)
     requires { CanPushNode edges tree.old node }
     ensures { PushesNode edges tree.old tree.new (node_of node) }
 {
-    if let Some(prior) = status(tree, edges, node.vertex as usize)
+    let closed = PartialKeyedClosedSet { tree, edges };
+    if let Some(prior) = closed.status(node.vertex as usize)
         && queue::evaluation(tree, prior) <= queue::evaluation_of(node.cost)
     {
         return;

@@ -25,66 +25,66 @@ pub fn close(tree: &mut [u32], edges: usize, vertex: usize, node: u32) -> CloseR
     CloseResult::Accepted
 }
 
-// The node that closed a vertex, if one did.
-pub fn status(tree: &[u32], edges: usize, vertex: usize) -> Option<u32>
-    requires { Formed edges tree.now × HasVertex edges tree.now vertex }
-    ensures { result ≡ status_of (closed_word_in edges tree.now vertex) }
-{
-    let word = tree[layout::closed_at(edges) + vertex];
-    if word == 0 {
-        return None;
-    }
-    Some(word - 1)
+// The closed words of `tree`, which start where `edges` says, in a tree that is formed.
+#[derive(Clone, Copy)]
+pub struct PartialKeyedClosedSet<'a> {
+    pub tree: &'a [u32],
+    pub edges: usize,
+    pub ghost formed: { Formed edges tree.now },
 }
 
-// How many vertices are closed, counted from the closed words: those that are not open. The count is a word and counts the words
-// that are 0, so that the compiler counts four at a time and in the fewest instructions.
-pub fn closed_keys_len(tree: &[u32], edges: usize) -> u32
-    requires { Formed edges tree.now }
-    ensures { ClosedCountIs edges tree.now result }
-{
-    let closed = &tree[layout::closed_at(edges)..];
-    let mut unclosed: u32 = 0;
-    for word in closed {
-        if *word == 0 {
-            unclosed += 1;
+impl PartialKeyedClosedSet<'_> {
+    // The node that closed a vertex, if one did.
+    pub fn status(self, vertex: usize) -> Option<u32>
+        requires { HasVertex self.edges self.tree.now vertex }
+        ensures { result ≡ status_of (closed_word_in self.entry.edges self.entry.tree.now vertex) }
+    {
+        self.tree[layout::closed_at(self.edges) + vertex].checked_sub(1)
+    }
+
+    // How many vertices are closed, counted from the closed words: those that are not open. The count is a word and counts the words
+    // that are 0, so that the compiler counts four at a time and in the fewest instructions.
+    pub fn closed_keys_len(self) -> u32
+        ensures { ClosedCountIs self.entry.edges self.entry.tree.now result }
+    {
+        let closed = &self.tree[layout::closed_at(self.edges)..];
+        let mut unclosed: u32 = 0;
+        for word in closed {
+            if *word == 0 {
+                unclosed += 1;
+            }
         }
+        closed.len() as u32 - unclosed
     }
-    closed.len() as u32 - unclosed
-}
 
-// The cheapest closed goal, the first in the list on ties, as the node that closed it. `words` are those of the tree's cache.
-pub fn cheapest_goal(words: &[u32], tree: &[u32], edges: usize, goals: &[u32]) -> Option<u32>
-    requires { Formed edges tree.now × HasGoals edges tree.now goals.now }
-    ensures { CheapestIs (read_cache words.now).domain words.now edges tree.now goals.now result }
-{
-    let mut best = None;
-    for goal in goals {
-        best = cheaper_goal(words, tree, edges, best, *goal as usize);
-    }
-    best
-}
-
-// The solution held, or the node that closed a vertex if that is cheaper.
-fn cheaper_goal(
-    words: &[u32],
-    tree: &[u32],
-    edges: usize,
-    best: Option<u32>,
-    vertex: usize,
-) -> Option<u32>
-    requires { Formed edges tree.now × (HasVertex edges tree.now vertex × HasSolution tree.now best) }
-    ensures { Considers (read_cache words.now).domain words.now edges tree.now best vertex result }
-{
-    let Some(node) = status(tree, edges, vertex) else {
-        return best;
-    };
-    match best {
-        None => Some(node),
-        Some(held) if solution_cost(words, tree, node) < solution_cost(words, tree, held) => {
-            Some(node)
+    // The cheapest closed goal, the first in the list on ties, as the node that closed it. `words` are those of the tree's cache.
+    pub fn cheapest_goal(self, words: &[u32], goals: &[u32]) -> Option<u32>
+        requires { HasGoals self.edges self.tree.now goals.now }
+        ensures { CheapestIs (read_cache words.now).domain words.now self.entry.edges self.entry.tree.now goals.now result }
+    {
+        let mut best = None;
+        for goal in goals {
+            best = self.cheaper_goal(words, best, *goal as usize);
         }
-        Some(_) => best,
+        best
+    }
+
+    // The solution held, or the node that closed a vertex if that is cheaper.
+    fn cheaper_goal(self, words: &[u32], best: Option<u32>, vertex: usize) -> Option<u32>
+        requires { HasVertex self.edges self.tree.now vertex × HasSolution self.tree.now best }
+        ensures { Considers (read_cache words.now).domain words.now self.entry.edges self.entry.tree.now best vertex result }
+    {
+        let Some(node) = self.status(vertex) else {
+            return best;
+        };
+        let tree = self.tree;
+        match best {
+            None => Some(node),
+            Some(held) if solution_cost(words, tree, node) < solution_cost(words, tree, held) => {
+                Some(node)
+            }
+            Some(_) => best,
+        }
     }
 }
 

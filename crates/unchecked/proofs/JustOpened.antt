@@ -13,7 +13,7 @@ use lib.ListN.{length}
 use Rattle.model.specs.declared.Refusal.{Refusal}
 use Rattle.model.specs.declared.Search.{Search}
 use Rattle.model.specs.Lists.{keep, mem}
-use Rattle.model.specs.Answers.{answered, initialize_reply}
+use Rattle.model.specs.Answers.{answered}
 use Rattle.model.specs.Graph.{Accepted, Direction, forward, backward, edge_count}
 use Rattle.model.specs.Tree.{Tree}
 use Rattle.model.specs.Search.{roots_of, goals_of, empty_search}

@@ -30,8 +30,9 @@ module _ {ws : List ℕ} {i n : ℕ} (u : HasNode ws i n) {t : List ℕ} (et : t
   pub node-fits : NodeFits (length t) w
   node-fits = omega (arith, is, words-node-fits u.used et refl n u.node)
 
-  pub cost-is : {k : ℕ} → k ≡ cost_in t w → k ≡ (node ns n).cost
-  cost-is z = z ∙ ap (cost_in t) is ∙ words-cost u.used et refl n u.node
+  -- s: the slot's words in the hands of node j
+  pub cost-is : {s : List ℕ} {j k : ℕ} → s ≡ t → j ≡ w → k ≡ cost_in s j → k ≡ (node ns n).cost
+  cost-is own at z = z ∙ ap₂ (λ (x : List ℕ) (y : ℕ). cost_in x y) own (at ∙ is) ∙ words-cost u.used et refl n u.node
 
   pub nodes-are : nodes_of ws t ≡ ns
   nodes-are = nodes-of ws (length t - closed_words_at (edges_in ws)) (edges_in ws) t ∙ ap (λ (x : Tree). x.nodes) (words-tree u.used et refl)

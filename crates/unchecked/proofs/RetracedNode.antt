@@ -1,11 +1,12 @@
 -- The path to a node of the tree in a slot, written from the part of the slot's words.
 -- Assumes nothing.
 use mathlib.Core.Path.{◌≡◌, refl, sym, ap, ap₂, ◌∙◌}
-use Rattle.memory.specs.Standing.{shown_node}
+use Rattle.memory.specs.Standing.{HeldIs}
+use Rattle.memory.specs.declared.held_node.HeldNode.{HeldNode}
 use Rattle.std.specs.declared.option.Option.{Option}
 use Rattle.std.specs.declared.result.Result.{Result}
 use Rattle.model.specs.declared.Refusal.{Refusal}
-use Rattle.std.specs.Prelude.{Err, Ok, None}
+use Rattle.std.specs.Prelude.{Err, Ok, None, Some}
 use mathlib.Core.Bool.{Bool, true, false}
 use mathlib.Core.List.{List, [], ◌∷◌}
 use Prim.Native.Nat.{ℕ, zero, suc, ◌+◌, ◌*◌, ◌<◌, ◌≤◌}
@@ -13,7 +14,7 @@ use native.Mathlib.Omega.{arith}
 use lib.Dec.{eqb}
 use lib.ListN.{length, length-append}
 use borrow.Author.Tests.{lt-ltb, le-ltb}
-use Rattle.model.specs.declared.Refusal.TheVariants.{NotSolved, ShortPath}
+use Rattle.model.specs.declared.Refusal.TheVariants.{ShortPath}
 use Rattle.model.specs.Tree.{Node, node}
 use Rattle.model.specs.Sound.{tree}
 use Rattle.model.specs.Answers.{answered}
@@ -25,7 +26,7 @@ use Rattle.sound.proofs.InUse.{words-formed, words-used}
 use Rattle.paths.specs.Path.{CanBacktrack, Backtracks}
 use Rattle.unchecked.proofs.Nodes.{nodes-are, is-hung}
 use Rattle.memory.specs.declared.Shown.{Shown}
-use Rattle.unchecked.specs.Retrace.{retrace_node_if, RetracesNode, retrace_shown, RetracesShown}
+use Rattle.unchecked.specs.Retrace.{retrace_node_if, retrace_node, RetracesNode, retrace_shown, RetracesHeld}
 use Rattle.layout.specs.Layout.{direction_in, edges_in, vertices_in}
 use Rattle.layout.specs.Slots.{slot_words}
 
@@ -77,11 +78,11 @@ module _ {ws : List ℕ} {i n : ℕ} (u : HasNode ws i n) where
       let small : length p < 1 + 2 * moves_of ns n = omega (arith, short, count) in
       ap (λ (x : Result ℕ Refusal). after_retrace x p) e ∙ sym (ap (λ (b : Bool). retrace_node_if b ws i n p) (lt-ltb _ _ small))
 
--- ---- the node shown, by the code's cases
+-- ---- the node shown
 
-module _ (ws p : List ℕ) {x : Option Shown} where
-  pub nothing-retraced : x ≡ None → {r : Result ℕ Refusal} → r ≡ Err NotSolved → RetracesShown ws x p r p
-  nothing-retraced e z = ap (λ (y : Result ℕ Refusal). after_retrace y p) z ∙ sym (ap (λ (y : Option Shown). retrace_shown ws y p) e)
-
-  pub node-retraced : {i n : ℕ} → x ≡ shown_node i n → (r : Result ℕ Refusal) (q : List ℕ) → RetracesNode ws i n p r q → RetracesShown ws x p r q
-  node-retraced e r q h = h ∙ sym (ap (λ (y : Option Shown). retrace_shown ws y p) e)
+pub held-retraced : (ws : List ℕ) (x : Option Shown) (o : Option HeldNode) → HeldIs ws x o → (p : List ℕ) (r : Result ℕ Refusal) (q : List ℕ) → RetracesHeld o p r q
+    → after_retrace r q ≡ retrace_shown ws x p
+held-retraced ws None None z p r q e = e
+held-retraced ws None (Some h) z p r q e = absurd z
+held-retraced ws (Some x) None z p r q e = absurd z
+held-retraced ws (Some x) (Some h) z p r q e = e ∙ (λ i. retrace_node (z.0 i) (z.1.0 i) (z.1.1 i) p)

@@ -30,8 +30,8 @@ use Rattle.memory.specs.declared.Shown.{Shown}
 use Rattle.unchecked.specs.Step.{Advances}
 use Rattle.unchecked.specs.Solve.{Solves}
 use Rattle.model.specs.Steps.{Waited, at_first, once_more}
-use Rattle.memory.specs.Standing.{shown_in}
-use Rattle.unchecked.specs.Shown.{Shows, status_of}
+use Rattle.memory.specs.Standing.{shown_in, Shows}
+use Rattle.unchecked.specs.Shown.{status_of}
 use Rattle.unchecked.specs.Retrace.{retrace_shown}
 use Rattle.unchecked.specs.Run.{ticket_limit, JustOpened, RunsToEnd}
 use Rattle.unchecked.proofs.ShownNode.{shows, status-is}

@@ -27,11 +27,11 @@ use Rattle.layout.specs.Read.{read_cache}
 use Rattle.sound.specs.Facts.{SoundWords}
 use Rattle.sound.proofs.Facts.{sound-accepted, sound-cache}
 use Rattle.memory.specs.declared.Shown.{Shown}
-use Rattle.memory.specs.Standing.{shown_at}
+use Rattle.memory.specs.Standing.{shown_at, Shows}
 use Rattle.memory.proofs.Fits.{almost-fits}
 use Rattle.entry_turns.specs.declared.Turned.{Turned}
 use Rattle.entry_turns.specs.Turn.{CanStep, Steps, best_entry}
-use Rattle.unchecked.specs.Shown.{shown_of, Shows, status_of, last_status, last_answer}
+use Rattle.unchecked.specs.Shown.{shown_of, status_of, last_status, last_answer}
 use Rattle.unchecked.specs.Step.{Advances}
 use Rattle.unchecked.specs.Solve.{Solves}
 use Rattle.model.specs.Steps.{Waited, at_first, once_more, all_wait}

@@ -13,6 +13,7 @@ use Rattle.model.specs.Calls.{AfterRetrace, retrace, written, after_retrace}
 use Rattle.layout.specs.Layout.{direction_in}
 use Rattle.layout.specs.Read.{direction_of, read_cache}
 use Rattle.memory.specs.declared.Shown.{Shown}
+use Rattle.memory.specs.declared.held_node.HeldNode.{HeldNode}
 
 abbrev pub Retraces : List ℕ → Search → List ℕ → Result ℕ Refusal → List ℕ → Type 0
 Retraces ws s p r q = after_retrace r q ≡ retrace (read_cache ws) s p
@@ -38,5 +39,6 @@ abbrev pub retrace_shown : List ℕ → Option Shown → List ℕ → AfterRetra
 retrace_shown ws None p = record { reply = refused 9 0; path = p }
 retrace_shown ws (Some x) p = retrace_node ws x.slot x.node p
 
-abbrev pub RetracesShown : List ℕ → Option Shown → List ℕ → Result ℕ Refusal → List ℕ → Type 0
-RetracesShown ws x p r q = after_retrace r q ≡ retrace_shown ws x p
+abbrev pub RetracesHeld : Option HeldNode → List ℕ → Result ℕ Refusal → List ℕ → Type 0
+RetracesHeld None p r q = after_retrace r q ≡ record { reply = refused 9 0; path = p }
+RetracesHeld (Some h) p r q = RetracesNode h.words.now h.slot h.node p r q

@@ -15,7 +15,8 @@ use Rattle.sound.specs.Facts.{SoundWords}
 use Rattle.unchecked.specs.declared.SearchRun.{SearchRun}
 use Rattle.opening.specs.Initialize.{Initializes}
 use Rattle.unchecked.specs.Solve.{Solves}
-use Rattle.unchecked.specs.Shown.{Shows, status_of}
+use Rattle.memory.specs.Standing.{Shows}
+use Rattle.unchecked.specs.Shown.{status_of}
 use Rattle.unchecked.specs.Retrace.{retrace_shown}
 
 -- what its steps came to

@@ -14,15 +14,17 @@ ghost use Rattle.layout.specs.Read.{read_cache};
 ghost use Rattle.sound.specs.Facts.{SoundWords};
 ghost use Rattle.unchecked.specs.Step.{Advances, not_stepped};
 ghost use Rattle.unchecked.specs.Solve.{Solves};
-ghost use Rattle.unchecked.specs.Shown.{Shows, shown_of, last_answer};
+ghost use Rattle.memory.specs.Standing.{Shows};
+ghost use Rattle.unchecked.specs.Shown.{shown_of, last_answer};
 ghost use Rattle.unchecked.specs.Run.{Runs, JustOpened, RunsToEnd};
 ghost use Rattle.unchecked.specs.Retrace.{Retraces};
 
 use entry_turns::{best_entry, step_trees};
-use memory::{Shown, Standing, judge, shown_at};
+use memory::{Shown, Standing, held_in, judge, shown_at};
 use model::{BestSolution, Refusal, Search, SearchStatus, Stepped, StepsTaken, TreeMemory};
 use opening::initialize;
 use shown::{retrace_shown, shown_of, status_of};
+use sound::known::SoundCache;
 
 // One step of a search, which comes back changed beside the answer.
 pub fn step(words: &mut [u32], search: Search) -> Stepped
@@ -44,7 +46,7 @@ pub fn solve(words: &mut [u32], search: Search, steps: u32) -> StepsTaken
     requires { SoundWords words.old }
     ensures { Solves words.old search steps result words.new }
 {
-    let answer = standing(words, search);
+    let answer = standing(SoundCache { words }, search);
     if !is_waiting(answer) {
         return StepsTaken {
             answer,
@@ -86,9 +88,9 @@ fn last_answer(words: &[u32], best: Option<BestSolution>, holder: TreeMemory) ->
 {
     match best {
         None => SearchStatus::Impossible,
-        Some(_) => match shown_at(holder) {
+        Some(_) => match held_in(words, shown_at(holder)) {
             None => SearchStatus::Incomplete,
-            Some(shown) => status_of(words, Some(shown)),
+            Some(node) => status_of(Some(node)),
         },
     }
 }
@@ -140,7 +142,7 @@ fn run_opened(words: &mut [u32], search: Search) -> SearchRun
     let holder = next.trees[best_entry(best)];
     let shown = shown_of(best, holder);
     SearchRun {
-        answer: Ok(status_of(words, shown)),
+        answer: Ok(status_of(held_in(words, shown))),
         waits,
         tickets,
         shown,
@@ -149,13 +151,12 @@ fn run_opened(words: &mut [u32], search: Search) -> SearchRun
 }
 
 // What a step of the search answers. A refused or a finished one does no more.
-fn standing(words: &[u32], search: Search) -> Result<SearchStatus, Refusal>
-    requires { SoundWords words.now }
-    ensures { step_reply result ≡ (Model-step (read_cache words.now) search).reply }
+fn standing(cache: SoundCache, search: Search) -> Result<SearchStatus, Refusal>
+    ensures { step_reply result ≡ (Model-step (read_cache cache.entry.words.now) search).reply }
 {
-    match judge(words, search)? {
+    match judge(cache, search)? {
         Standing::Unfinished => Ok(SearchStatus::Incomplete),
-        Standing::Finished(shown) => Ok(status_of(words, shown)),
+        Standing::Finished(held) => Ok(status_of(held)),
     }
 }
 
@@ -176,13 +177,12 @@ pub fn not_stepped(search: Search, refusal: Refusal) -> Stepped
 }
 
 // Writes the path of a search that finished as solved: first vertex, then edge and vertex for each move, in the graph's own direction.
-pub fn retrace(words: &[u32], search: Search, path: &mut [u32]) -> Result<usize, Refusal>
-    requires { SoundWords words.now }
-    ensures { Retraces words.now search path.old result path.new }
+pub fn retrace(cache: SoundCache, search: Search, path: &mut [u32]) -> Result<usize, Refusal>
+    ensures { Retraces cache.entry.words.now search path.old result path.new }
 {
-    let standing = judge(words, search)?;
+    let standing = judge(cache, search)?;
     match standing {
         Standing::Unfinished => Err(Refusal::NotSolved),
-        Standing::Finished(shown) => retrace_shown(words, shown, path),
+        Standing::Finished(held) => retrace_shown(held, path),
     }
 }

@@ -6,11 +6,11 @@ ghost use Rattle.model.specs.Tree.{node as Tree·node};
 ghost use Rattle.model.specs.Sound.{tree};
 ghost use Rattle.model.specs.Path.{moves_of};
 ghost use Rattle.layout.specs.Read.{read_cache};
-ghost use Rattle.memory.specs.Memory.{HasNode};
-ghost use Rattle.unchecked.specs.Shown.{Shows, shown_of, status_of};
-ghost use Rattle.unchecked.specs.Retrace.{RetracesShown, RetracesNode};
+ghost use Rattle.unchecked.specs.Shown.{shown_of, status_held};
+ghost use Rattle.unchecked.specs.Retrace.{RetracesHeld, RetracesNode};
 
 use layout::slots::slot_words;
+use memory::held_node::HeldNode;
 use memory::{Shown, shown_at};
 use model::{BestSolution, Refusal, SearchStatus, TreeMemory};
 
@@ -23,65 +23,50 @@ pub fn shown_of(best: Option<BestSolution>, holder: TreeMemory) -> Option<Shown>
 }
 
 // The answer of a finished search.
-pub fn status_of(words: &[u32], shown: Option<Shown>) -> SearchStatus
-    requires { Shows words.now shown }
-    ensures { status result ≡ status_of (read_cache words.now).trees shown }
+pub fn status_of(held: Option<HeldNode>) -> SearchStatus
+    ensures { status result ≡ status_held held.entry }
 {
-    match shown {
+    match held {
         None => SearchStatus::Impossible,
-        Some(Shown { slot, node }) => SearchStatus::Solved {
-            total_cost: node_cost(words, slot, node),
-            moves: moves(words, slot, node),
+        Some(node) => SearchStatus::Solved {
+            total_cost: node_cost(node),
+            moves: moves(node),
         },
     }
 }
 
 // The path to the node shown.
-pub fn retrace_shown(
-    words: &[u32],
-    shown: Option<Shown>,
-    path: &mut [u32],
-) -> Result<usize, Refusal>
-    requires { Shows words.now shown }
-    ensures { RetracesShown words.now shown path.old result path.new }
+pub fn retrace_shown(held: Option<HeldNode>, path: &mut [u32]) -> Result<usize, Refusal>
+    ensures { RetracesHeld held.entry path.old result path.new }
 {
-    match shown {
+    match held {
         None => Err(Refusal::NotSolved),
-        Some(Shown { slot, node }) => retrace_node(words, slot, node, path),
+        Some(node) => retrace_node(node, path),
     }
 }
 
-// The path to a node of the tree in a slot, if the slice has room for it.
-pub fn retrace_node(
-    words: &[u32],
-    slot: usize,
-    node: u32,
-    path: &mut [u32],
-) -> Result<usize, Refusal>
-    requires { HasNode words.now slot node }
-    ensures { RetracesNode words.now slot node path.old result path.new }
+// The path to a node, if the slice has room for it.
+pub fn retrace_node(held: HeldNode, path: &mut [u32]) -> Result<usize, Refusal>
+    ensures { let n = held.entry in RetracesNode n.words.now n.slot n.node path.old result path.new }
 {
-    let count = moves(words, slot, node);
+    let count = moves(held);
     if path.len() < 1 + 2 * count {
         return Err(Refusal::ShortPath);
     }
-    let tree = slot_words(words, slot);
-    paths::backtrack(words, tree, node as usize, path);
+    let tree = slot_words(held.words, held.slot);
+    paths::backtrack(held.words, tree, held.node as usize, path);
     Ok(count)
 }
 
-// A node's cost, in the tree of a slot.
-fn node_cost(words: &[u32], slot: usize, node: u32) -> u32
-    requires { HasNode words.now slot node }
-    ensures { result ≡ (Tree·node (tree (read_cache words.now).trees slot).nodes node).cost }
+fn node_cost(held: HeldNode) -> u32
+    ensures { let n = held.entry in result ≡ (Tree·node (tree (read_cache n.words.now).trees n.slot).nodes n.node).cost }
 {
-    layout::node_cost(slot_words(words, slot), node as usize)
+    layout::node_of(slot_words(held.words, held.slot), held.node as usize).cost()
 }
 
-// How many moves lead to a node, in the tree of a slot.
-fn moves(words: &[u32], slot: usize, node: u32) -> usize
-    requires { HasNode words.now slot node }
-    ensures { result ≡ moves_of (tree (read_cache words.now).trees slot).nodes node }
+// How many moves lead to a node.
+fn moves(held: HeldNode) -> usize
+    ensures { let n = held.entry in result ≡ moves_of (tree (read_cache n.words.now).trees n.slot).nodes n.node }
 {
-    paths::moves(slot_words(words, slot), node as usize)
+    paths::moves(slot_words(held.words, held.slot), held.node as usize)
 }

@@ -2,11 +2,9 @@ use Rattle.std.proofs.Common.{rules}
 use Rattle.drawing.proofs.Drawn.{held-short, held-drawn}
 use Rattle.drawing.proofs.draw_held.Goals as goal
 
--- src/lib.rt:52:9
 pub returns-then-out-vertices : goal.returns-then-out-vertices
 returns-then-out-vertices c = search (rules, held-short)
 
--- src/lib.rt:45:1
 pub returns : goal.returns
 returns c =
     held-drawn c.args.words.now c.args.path.now c.args.out.now c.requires c.reached-marks.result

@@ -4,31 +4,26 @@ use Rattle.put_text.proofs.Puts.{puts_then}
 use Rattle.drawing.proofs.Whole.{drawing-is, drawing-room}
 use Rattle.drawing.proofs.put_drawing.Goals as goal
 
--- src/lib.rt:70:9
 pub put_vertices-b-requires : goal.put_vertices-b-requires
 put_vertices-b-requires c =
     let room = drawing-room c.args.words.now c.args.marks.now c.requires.0 c.standing-vertices.result c.standing-edges.result _ c.requires.1 in
-    (c.requires.0, omega arith)
+    omega arith
 
--- src/lib.rt:71:9
 pub put_apart-c-requires : goal.put_apart-c-requires
 put_apart-c-requires c =
     let room = drawing-room c.args.words.now c.args.marks.now c.requires.0 c.standing-vertices.result c.standing-edges.result _ c.requires.1 in
-    (c.requires.0, omega arith)
+    omega arith
 
--- src/lib.rt:72:9
 pub put_edges-d-requires : goal.put_edges-d-requires
 put_edges-d-requires c =
     let room = drawing-room c.args.words.now c.args.marks.now c.requires.0 c.standing-vertices.result c.standing-edges.result _ c.requires.1 in
-    (c.requires.0, omega arith)
+    omega arith
 
--- src/lib.rt:73:5
 pub put_bytes-requires : goal.put_bytes-requires
 put_bytes-requires c =
     let room = drawing-room c.args.words.now c.args.marks.now c.requires.0 c.standing-vertices.result c.standing-edges.result _ c.requires.1 in
     omega arith
 
--- src/lib.rt:59:1
 pub returns : goal.returns
 returns c =
     let room = drawing-room c.args.words.now c.args.marks.now c.requires.0 c.standing-vertices.result c.standing-edges.result _ c.requires.1 in

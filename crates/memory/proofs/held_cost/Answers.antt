@@ -1,5 +1,5 @@
-use Rattle.memory.proofs.Fits.{held-node}
+use Rattle.memory.proofs.Judged.{solution-shows}
 use Rattle.memory.proofs.held_cost.Goals as goal
 
-pub solution_cost-requires : goal.solution_cost-requires
-solution_cost-requires c = held-node c.requires (c.in_ok-node.was {u = tt})
+pub held_in-requires : goal.held_in-requires
+held_in-requires c = solution-shows c.requires c.shown_at.ensures

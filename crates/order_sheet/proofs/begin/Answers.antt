@@ -1,4 +1,4 @@
-use Rattle.std.proofs.Common.{◌≤◌, sym, ◌∙◌, refl, length, arith}
+use Rattle.std.proofs.Common.{◌≤◌, sym, ◌∙◌, refl, length, arith, rules}
 use borrow.Author.Tests.{ltb-false}
 use Rattle.order_run.specs.Lent.{max_bytes}
 use Rattle.order_sheet.specs.Whole.{title}
@@ -20,14 +20,14 @@ pub returns-in-Err : goal.returns-in-Err
 returns-in-Err c =
     begin-refused _ _ _ _
     (chart-refused _ _ (sym c.if-is_overlong.false ∙ c.is_overlong.ensures) (sym c.if-is_overlong-2.false ∙ c.is_overlong-else-is_overlong.ensures)
-    _ _ 0 _ refl c.requires.forward c.in-Err.ensures)
+    _ _ 0 _ refl (search rules) c.in-Err.ensures)
     c.refused_sheet-in-Err.ensures
 
 pub returns-in-Err-open : goal.returns-in-Err-open
 returns-in-Err-open c =
     begin-refused _ _ _ _
     (chart-refused _ _ (sym c.if-is_overlong.false ∙ c.is_overlong.ensures) (sym c.if-is_overlong-2.false ∙ c.is_overlong-else-is_overlong.ensures)
-    _ _ 1 _ refl c.requires.backward c.in-Err-open.ensures)
+    _ _ 1 _ refl (search rules) c.in-Err-open.ensures)
     c.refused_sheet-in-Err-open.ensures
 
 pub returns : goal.returns
@@ -36,4 +36,4 @@ returns c =
     let short = sym c.if-is_overlong.false ∙ c.is_overlong.ensures in
     let fewer = sym c.if-is_overlong-2.false ∙ c.is_overlong-else-is_overlong.ensures in
     let few : length c.args.orders.now ≤ max_bytes = omega (arith, ltb-false max_bytes (length c.args.orders.now) (sym fewer)) in
-    begin-opened _ _ short fewer _ _ c.requires.forward few c.in_default.ensures c.in_default-open.ensures c.put_bytes.ensures
+    begin-opened _ _ short fewer _ _ (search rules) few c.in_default.ensures c.in_default-open.ensures c.put_bytes.ensures

@@ -3,27 +3,22 @@ use Rattle.text.proofs.LineCuts.{place-within}
 use Rattle.order_sheet.proofs.Whole.{put_last, put-line}
 use Rattle.order_sheet.proofs.put_next.Goals as goal
 
--- src/lib.rt:130:15
 pub overflow_add-end : goal.overflow_add-end
 overflow_add-end c =
     omega (arith, place-within c.args.orders.now c.args.part.at c.find.ensures)
 
--- src/lib.rt:132:9
 pub returns-then-end-orders : goal.returns-then-end-orders
 returns-then-end-orders c =
-    put_last _ c.requires.left c.requires.can c.find.ensures c.if-end-orders.true c.put_refusal.ensures
+    put_last _ c.requires.left c.requires.can c.find.ensures c.if-end-orders.true (rw c.number.ensures at c.put_refusal.ensures)
 
--- src/lib.rt:139:52
-pub slice_bounds-put_order-end : goal.slice_bounds-put_order-end
-slice_bounds-put_order-end c =
+pub slice_bounds-line-end : goal.slice_bounds-line-end
+slice_bounds-line-end c =
     omega (arith, place-within c.args.orders.now c.args.part.at c.find.ensures)
 
--- src/lib.rt:140:13
 pub overflow_add-result : goal.overflow_add-result
 overflow_add-result c =
     omega (arith, place-within c.args.orders.now c.args.part.at c.find.ensures)
 
--- src/lib.rt:116:1
 pub returns : goal.returns
 returns c =
     put-line _ c.requires.left c.requires.can c.find.ensures c.if-end-orders.false c.put_order.ensures

@@ -4,7 +4,7 @@ use Rattle.reach.proofs.Taken.{Taking}
 use Rattle.reach.proofs.reached.Given as goal
 
 abbrev pub invariant-loop-taken : goal.invariant-loop-taken
-invariant-loop-taken l = Taking l.size.vertices l.size.edges l.words l.marks l.list l.count l.taken
+invariant-loop-taken l = Taking l.size.vertices l.size.edges l.words l.marks l.list.items l.taken
 
 -- proposed from the loop's first test
 abbrev pub decreases-loop-taken : goal.decreases-loop-taken

@@ -1,6 +1,6 @@
 use native.Mathlib.Omega.{arith}
 use Rattle.std.proofs.Common.{◌∙◌, rules}
-use Rattle.unchecked.proofs.ShownNode.{holder-is}
+use Rattle.unchecked.proofs.ShownNode.{holder-is, held-status}
 use Rattle.unchecked.proofs.Waits.{advances-few, waited-few}
 use Rattle.unchecked.proofs.Running.{running-first, running-can, running-advances, running_more, running-shows, running-ends}
 use Rattle.unchecked.proofs.run_opened.Goals as goal
@@ -19,11 +19,11 @@ overflow_add-tickets c =
 pub loop-next-preserved : goal.loop-next-preserved
 loop-next-preserved c = search (rules, running_more)
 
-pub status_of-requires : goal.status_of-requires
-status_of-requires c =
+pub held_in-requires : goal.held_in-requires
+held_in-requires c =
     running-shows c.loop-next.invariant c.loop-next-test.false (c.shown_of-shown.ensures ∙ holder-is c.loop-next.next c.best_entry.ensures)
 
 pub returns : goal.returns
 returns c =
     running-ends c.loop-next.invariant c.loop-next-test.false (c.shown_of-shown.ensures ∙ holder-is c.loop-next.next c.best_entry.ensures)
-    c.status_of.result c.status_of.ensures
+    c.status_of.result (c.status_of.ensures ∙ held-status _ _ _ c.held_in.ensures)

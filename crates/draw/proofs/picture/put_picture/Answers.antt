@@ -14,4 +14,4 @@ returns-in-Ok c =
 
 pub returns-in-Err : goal.returns-in-Err
 returns-in-Err c =
-    rw (c.in-Some.is, picture-refused c.args.chart.now c.if-chart-gt-MAX_BYTES.false c.in-Some.order.now c.in-Err.refused c.in-Err.ensures c.number.ensures) c.put_refused-in-Err.ensures
+    rw (c.in-Some.is, picture-refused c.args.chart.now c.if-chart-gt-MAX_BYTES.false c.in-Some.order.now c.in-Err.refused c.in-Err.ensures c.number-in-Err.ensures) c.put_refused-in-Err.ensures

@@ -3,10 +3,8 @@ use Rattle.put_text.proofs.Decimals.{decimal-length}
 use Rattle.put_text.proofs.Puts.{puts_then}
 use Rattle.drawing.proofs.lines.put_numbered.Goals as goal
 
--- src/lines.rt:35:5
 pub put_word-requires : goal.put_word-requires
 put_word-requires c = search (rules, decimal-length)
 
--- src/lines.rt:30:1
 pub returns : goal.returns
 returns c = puts_then (omega arith) c.put_bytes-a.ensures c.put_word.ensures

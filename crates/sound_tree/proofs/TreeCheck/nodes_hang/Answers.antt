@@ -1,4 +1,4 @@
-use Rattle.std.proofs.Common.{rules, arith, ◌∙◌, sym, refl}
+use Rattle.std.proofs.Common.{rules, arith, sym, refl}
 use borrow.Author.Tests.{tests}
 use Rattle.layout.proofs.Trees.{tree-nodes}
 use Rattle.sound_tree.proofs.Ranges.{all_above}
