@@ -5,49 +5,63 @@
 #![tactic(auto)]
 
 use model::Search;
-use order_lines::orders::{Numbers, read_list};
+use order_lines::orders::{Numbers, empty_list, read_list};
 use planner::{MAX_STEPS, solve};
 use std::env::Env;
 use text::bytes::read_number;
 
-const WORDS: usize = 65536;
+// The words lent to the calls, and one past them.
+const LENT: usize = 65536;
+
+const WORDS: usize = LENT + 1;
 
 // The longest argument.
 const ARGUMENT: usize = 4096;
 
-fn main(rt: HostRuntime) -> std::io::Result<()> {
+// What cannot be written is passed over.
+fn main(rt: HostRuntime) {
     let mut chart = io::large_buffer();
     let n = io::read_full(0, &mut chart);
     let mut words = [0u32; WORDS];
-    if cache::open(&mut words, &chart[..n], 0, number(&rt, 1)).is_err() {
-        return println!(rt; "refused");
-    }
-    println!(rt; "{}", run(&rt, &mut words))
+    let _unwritten = match cache::open(&mut words[..LENT], &chart[..n], 0, number(&rt, 1)) {
+        Ok(()) => println!(rt; "{}", run(&rt, &mut words)),
+        Err(_) => println!(rt; "refused"),
+    };
 }
 
-// The words are those of an opened cache. The call is `v`, which solves the search, `s`, which steps it once, `c`, which checks the
-// words, or anything else, which adds them up.
-fn run(rt: &impl Env, words: &mut [u32]) -> u64 {
+// The words lent are those of an opened cache. The call is `c`, which checks the words, or one of those below.
+fn run(rt: &impl Env, words: &mut [u32; WORDS]) -> u64 {
     let goals = list(rt, 4);
-    fill(words, &list(rt, 2), &goals);
-    let search = opened(words, &list(rt, 3), &goals);
-    solve(words, search, MAX_STEPS);
+    fill(&mut words[..LENT], &list(rt, 2), &goals);
+    let search = opened(&mut words[..LENT], &list(rt, 3), &goals);
+    solve(&mut words[..LENT], search, MAX_STEPS);
     let count = number(rt, 6);
     match letter(rt, 5) {
-        b'v' => repeated(count, || solve(words, search, MAX_STEPS).waits as u64),
-        b's' => repeated(count, || dijkstra::step(words, search).tickets as u64),
-        b'c' => repeated(count, || {
-            touch(words);
-            u64::from(sound::is_sound(words))
-        }),
-        _ => repeated(count, || u64::from(plain_sum(words))),
+        b'c' => checked(words, count),
+        call => called(&mut words[..LENT], search, call, count),
     }
 }
 
-// Changes the last word lent, which no cache that is measured reaches: a check of the same words would be made once and not repeated.
+fn checked(words: &mut [u32], count: usize) -> u64 {
+    repeated(count, || {
+        touch(words);
+        u64::from(sound::is_sound(words))
+    })
+}
+
+// Changes the last word, which is not lent and which no cache reaches: a check of the same words would be made once and not repeated.
 fn touch(words: &mut [u32]) {
     if let Some(last) = words.last_mut() {
         *last = last.wrapping_add(1);
+    }
+}
+
+// The call is `v`, which solves the search, `s`, which steps it once, or anything else, which adds the words up.
+fn called(words: &mut [u32], search: Search, call: u8, count: usize) -> u64 {
+    match call {
+        b'v' => repeated(count, || solve(words, search, MAX_STEPS).waits as u64),
+        b's' => repeated(count, || dijkstra::step(words, search).tickets as u64),
+        _ => repeated(count, || u64::from(plain_sum(words))),
     }
 }
 
@@ -61,7 +75,7 @@ fn fill(words: &mut [u32], starts: &[u32], goals: &[u32]) {
 
 // A search as it is opened; a refused one is empty.
 fn opened(words: &mut [u32], starts: &[u32], goals: &[u32]) -> Search {
-    dijkstra::initialize(words, starts, goals).unwrap_or(Search::empty())
+    dijkstra::opened_search(dijkstra::initialize(words, starts, goals))
 }
 
 fn repeated<Call: FnMut() -> u64>(count: usize, mut call: Call) -> u64
@@ -82,7 +96,7 @@ fn plain_sum(words: &[u32]) -> u32 {
 // An argument as a list, as a number, and its first byte.
 fn list(rt: &impl Env, i: usize) -> Numbers {
     let mut buffer = [0; ARGUMENT];
-    read_list(argument(rt, i, &mut buffer), b' ').unwrap_or_default()
+    read_list(argument(rt, i, &mut buffer), b' ').unwrap_or(empty_list())
 }
 
 fn number(rt: &impl Env, i: usize) -> usize {
@@ -92,7 +106,8 @@ fn number(rt: &impl Env, i: usize) -> usize {
 
 fn letter(rt: &impl Env, i: usize) -> u8 {
     let mut buffer = [0; ARGUMENT];
-    argument(rt, i, &mut buffer).first().copied().unwrap_or(0)
+    argument(rt, i, &mut buffer);
+    buffer[0]
 }
 
 // An argument's bytes, in the buffer lent: none if it is missing or too long.

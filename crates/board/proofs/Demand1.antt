@@ -36,7 +36,7 @@ initialize-refused ws ss gs rec r left rec' (board.initialized room x p n k) h =
   where
     go : (y : Result Search Refusal) → x ≡ y → r ≡ answer_number (initialize_reply y) → Kept (initialize_reply y) (opened_search y) rec rec' → (left ≡ ws) × (rec' ≡ rec)
     go (Ok s) e n k = absurd (omega (arith, n))
-    go (Err f) e n k = ((dijkstra.demand-1).0 ws ss gs x left p f e, k)
+    go (Err f) e n k = (((dijkstra.demand-1).0 ws ss gs x left p f e).0, k)
 
 -- what a number that is not 0 says of a step's answer
 record Told (y : Result SearchStatus Refusal) (a rec rec' : List ℕ) : Type 0 where
@@ -75,7 +75,7 @@ retrace-refused ws rec p r moves q (board.retraced is x c n m) h = go x c n m
   where
     go : (x : Result ℕ Refusal) → Retracing ws (decode rec) p x q → r ≡ answer_number (retrace_reply x) → moves ≡ path_moves (retrace_reply x) → (q ≡ p) × (moves ≡ 0)
     go (Ok k) c n m = absurd (omega (arith, n))
-    go (Err f) c n m = ((dijkstra.demand-1).2 ws (decode rec) p (Err f) q c f refl, m)
+    go (Err f) c n m = (((dijkstra.demand-1).2 ws (decode rec) p (Err f) q c f refl).0, m)
 
 pub demand-1 : Demand1
 demand-1 = (open-refused, initialize-refused, step-refused, solve-refused, plan-refused, retrace-refused)

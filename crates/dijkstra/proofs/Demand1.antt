@@ -10,8 +10,8 @@ use Rattle.model.specs.declared.Refusal.{Refusal}
 use Rattle.model.specs.declared.Search.{Search}
 use Rattle.model.specs.declared.Stepped.{Stepped}
 use Rattle.model.specs.Answers.{number, Reply, refused, Status, initialize_reply, step_reply, retrace_reply}
-use Rattle.model.specs.Search.{roots_of}
-use Rattle.model.specs.Calls.{Cache, AfterRetrace}
+use Rattle.model.specs.Search.{empty_search, roots_of}
+use Rattle.model.specs.Calls.{Cache, AfterRetrace, opened_search}
 use Rattle.model.specs.Demands.{RefusedStep, RefusedRetrace}
 use Rattle.model.proofs.Demand1.{demand-1 as model-demand-1}
 use Rattle.layout.specs.Read.{direction_of, read_cache}
@@ -33,21 +33,26 @@ retrace-refused false c s p n line e = record { path = refl; lines = cc }
 
 -- ---- each call, by its promise
 
-initialize-leaves : (ws ss gs : List ℕ) (r : Result Search Refusal) (left : List ℕ) → Initializing ws ss gs r left → (f : Refusal) → r ≡ Err f → left ≡ ws
+initialize-leaves : (ws ss gs : List ℕ) (r : Result Search Refusal) (left : List ℕ) → Initializing ws ss gs r left
+    → (f : Refusal) → r ≡ Err f → (left ≡ ws) × ((opened_search r ≡ empty_search) × (initialize_reply r ≡ refused (number f) 0))
 initialize-leaves ws ss gs r left p f e =
-    p.words ∙ ap (λ (x : Reply (Unit {0})). initialized_words x ws (roots_of (direction_of (direction_in ws)) ss gs)) (sym p.answer ∙ ap initialize_reply e)
+    let told : initialize_reply r ≡ refused (number f) 0 = ap initialize_reply e in
+    (p.words ∙ ap (λ (x : Reply (Unit {0})). initialized_words x ws (roots_of (direction_of (direction_in ws)) ss gs)) (sym p.answer ∙ told), (ap opened_search e, told))
 
 step-leaves : (ws : List ℕ) (s : Search) (r : Stepped) (left : List ℕ) → Stepping ws s r left
-    → (f : Refusal) → r.answer ≡ Err f → (left ≡ ws) × ((r.search ≡ s) × (r.tickets ≡ 0))
+    → (f : Refusal) → r.answer ≡ Err f → (left ≡ ws) × ((r.search ≡ s) × ((r.tickets ≡ 0) × (step_reply r.answer ≡ refused (number f) 0)))
 step-leaves ws s r left p f e =
-    let reply : (step_words ws s).reply ≡ refused (number f) 0 = sym p.answer ∙ ap step_reply e in
+    let told : step_reply r.answer ≡ refused (number f) 0 = ap step_reply e in
+    let reply : (step_words ws s).reply ≡ refused (number f) 0 = sym p.answer ∙ told in
     let kept = step-refused (sound_wordsb ws) (read_cache ws) s (number f) 0 reply in
-    (subst (λ (x : Reply Status). Leaves x ws s left) reply p.words, (p.search ∙ kept.search, p.tickets ∙ kept.tickets))
+    (subst (λ (x : Reply Status). Leaves x ws s left) reply p.words, (p.search ∙ kept.search, (p.tickets ∙ kept.tickets, told)))
 
-retrace-leaves : (ws : List ℕ) (s : Search) (p : List ℕ) (r : Result ℕ Refusal) (q : List ℕ) → Retracing ws s p r q → (f : Refusal) → r ≡ Err f → q ≡ p
+retrace-leaves : (ws : List ℕ) (s : Search) (p : List ℕ) (r : Result ℕ Refusal) (q : List ℕ) → Retracing ws s p r q
+    → (f : Refusal) → r ≡ Err f → (q ≡ p) × (retrace_reply r ≡ refused (number f) 0)
 retrace-leaves ws s p r q k f e =
-    let reply : (retrace_words ws s p).reply ≡ refused (number f) 0 = sym (ap (λ (x : AfterRetrace). x.reply) k) ∙ ap retrace_reply e in
-    ap (λ (x : AfterRetrace). x.path) k ∙ (retrace-refused (sound_wordsb ws) (read_cache ws) s p (number f) 0 reply).path
+    let told : retrace_reply r ≡ refused (number f) 0 = ap retrace_reply e in
+    let reply : (retrace_words ws s p).reply ≡ refused (number f) 0 = sym (ap (λ (x : AfterRetrace). x.reply) k) ∙ told in
+    (ap (λ (x : AfterRetrace). x.path) k ∙ (retrace-refused (sound_wordsb ws) (read_cache ws) s p (number f) 0 reply).path, told)
 
 pub demand-1 : Demand1
 demand-1 = (initialize-leaves, step-leaves, retrace-leaves)

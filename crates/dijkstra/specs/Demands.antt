@@ -7,10 +7,10 @@ use Rattle.std.specs.declared.result.Result.{Result}
 use Rattle.model.specs.declared.Refusal.{Refusal}
 use Rattle.model.specs.declared.Search.{Search}
 use Rattle.model.specs.declared.Stepped.{Stepped}
-use Rattle.model.specs.Answers.{answered, step_reply}
+use Rattle.model.specs.Answers.{number, answered, refused, initialize_reply, step_reply, retrace_reply}
 use Rattle.model.specs.Graph.{Graph}
-use Rattle.model.specs.Search.{entry}
-use Rattle.model.specs.Calls.{opened}
+use Rattle.model.specs.Search.{entry, empty_search}
+use Rattle.model.specs.Calls.{opened, opened_search}
 use Rattle.model.specs.Demands.{Call, initializing as initializingCall, stepping as steppingCall, retracing as retracingCall, reading, both, Act, own_step, own_retrace, other, Event, stepped, retraced, Owed}
 use Rattle.model.specs.Reference.{after_all, events_from}
 use Rattle.text.specs.Read.{read_graph}
@@ -19,17 +19,17 @@ use Rattle.layout.specs.Read.{direction_of, read_cache}
 use Rattle.cache.specs.Open.{Opening}
 use Rattle.dijkstra.specs.Calls.{Initializing, Stepping, Retracing, after_retrace}
 
--- ---- Demand 1: "hold, after any refused call, what they held before it". That every call returns an answer is the
--- language's, and that a refused opening hands back no record is its type's.
+-- ---- Demand 1: "hold, after any refused call, what they held before it". That every call returns an answer is the language's.
+-- The record of a refused opening is the empty one, and of each refusal the line is 0: "0 where no chart line is at fault".
 
 abbrev pub Demand1 : Type 0
 Demand1 =
     ((ws ss gs : List ℕ) (r : Result Search Refusal) (left : List ℕ) → Initializing ws ss gs r left
-    → (f : Refusal) → r ≡ Err f → left ≡ ws)
+    → (f : Refusal) → r ≡ Err f → (left ≡ ws) × ((opened_search r ≡ empty_search) × (initialize_reply r ≡ refused (number f) 0)))
     × ((ws : List ℕ) (s : Search) (r : Stepped) (left : List ℕ) → Stepping ws s r left
-    → (f : Refusal) → r.answer ≡ Err f → (left ≡ ws) × ((r.search ≡ s) × (r.tickets ≡ 0)))
+    → (f : Refusal) → r.answer ≡ Err f → (left ≡ ws) × ((r.search ≡ s) × ((r.tickets ≡ 0) × (step_reply r.answer ≡ refused (number f) 0))))
     × ((ws : List ℕ) (s : Search) (p : List ℕ) (r : Result ℕ Refusal) (q : List ℕ) → Retracing ws s p r q
-    → (f : Refusal) → r ≡ Err f → q ≡ p)
+    → (f : Refusal) → r ≡ Err f → (q ≡ p) × (retrace_reply r ≡ refused (number f) 0))
 
 -- ---- lists of calls on the same words: each gets the words as the last one left them
 

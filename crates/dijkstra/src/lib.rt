@@ -4,6 +4,8 @@
 
 #![tactic(auto)]
 
+ghost use Rattle.std.specs.Prelude.{◌≡◌};
+ghost use Rattle.model.specs.Calls.{opened_search};
 ghost use Rattle.dijkstra.specs.Calls.{Initializing, Stepping, Retracing};
 
 use model::{Refusal, Search, Stepped};
@@ -17,6 +19,13 @@ pub fn initialize(words: &mut [u32], starts: &[u32], goals: &[u32]) -> Result<Se
         return Err(Refusal::Unsound);
     }
     opening::initialize(words, starts, goals)
+}
+
+// The record of an opening, in every case: of a refused one the empty search.
+pub fn opened_search(opened: Result<Search, Refusal>) -> Search
+    ensures { result ≡ opened_search opened }
+{
+    opened.unwrap_or(Search::empty())
 }
 
 // One step of a search, which comes back changed beside the answer.

@@ -34,6 +34,7 @@ use Rattle.order_lines.specs.declared.orders.Form.{Form}
 use Rattle.order_lines.specs.declared.orders.Form.TheVariants.{Forward, Backward}
 use Rattle.order_lines.specs.declared.orders.Order.{Order}
 use Rattle.order_lines.specs.Orders.{order_of}
+use Rattle.order_run.specs.Run.{listed}
 use Rattle.order_lines.specs.Answers.{refused_line}
 use Rattle.put_text.specs.Puts.{Puts}
 use Rattle.drawing.specs.declared.DrawError.TheVariants.{Chart, ShortDrawing}
@@ -149,12 +150,12 @@ module _ (text : List ℕ) (d : ℕ) (within : d ≤ 1) (left : List ℕ) where
 
 module _ (chart order : List ℕ) where
   module _ (o : Order) (read : Some o ≡ order_of order) where
-    on-form : (f : Form) → path_in (direction_of (form_number f)) (read_graph chart) o.starts.items o.goals.items ≡ ordered_on f o (read_graph chart)
+    on-form : (f : Form) → path_in (direction_of (form_number f)) (read_graph chart) (listed o.starts) (listed o.goals) ≡ ordered_on f o (read_graph chart)
     on-form Forward = refl
     on-form Backward = refl
 
     -- ss and gs: its lists, as they are lent
-    pub ordered : {d : ℕ} {ss gs : List ℕ} → d ≡ form_number o.form → ss ≡ o.starts.items → gs ≡ o.goals.items → path_in (direction_of d) (read_graph chart) ss gs ≡ order_path chart order
+    pub ordered : {d : ℕ} {ss gs : List ℕ} → d ≡ form_number o.form → ss ≡ listed o.starts → gs ≡ listed o.goals → path_in (direction_of d) (read_graph chart) ss gs ≡ order_path chart order
     unfolding order_path
     ordered e starts goals = rw (e, starts, goals) (on-form o.form ∙ ap (λ (x : Option Order). ordered_by x (read_graph chart)) read)
 

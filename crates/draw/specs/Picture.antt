@@ -18,6 +18,7 @@ use Rattle.order_lines.specs.declared.orders.Order.{Order}
 use Rattle.order_lines.specs.Orders.{order_of}
 use Rattle.order_lines.specs.Answers.{refused_line}
 use Rattle.order_run.specs.Lent.{lent_slots}
+use Rattle.order_run.specs.Run.{listed}
 use Rattle.order_sheet.specs.Whole.{is_overlong}
 use Rattle.drawing.specs.Drawing.{drawing}
 
@@ -45,8 +46,8 @@ form_number Forward = 0
 form_number Backward = 1
 
 abbrev pub ordered_on : Form → Order → Reply Graph → Reply (List ℕ)
-ordered_on Forward o chart = path_in forward chart o.starts.items o.goals.items
-ordered_on Backward o chart = path_in backward chart o.starts.items o.goals.items
+ordered_on Forward o chart = path_in forward chart (listed o.starts) (listed o.goals)
+ordered_on Backward o chart = path_in backward chart (listed o.starts) (listed o.goals)
 
 -- "An order without this form is refused 1, before any opening."
 abbrev pub ordered_by : Option Order → Reply Graph → Reply (List ℕ)

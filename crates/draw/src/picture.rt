@@ -50,7 +50,9 @@ fn put_drawn(chart: &[u8], path: &[u32], out: &mut [u8]) -> usize
     }
 }
 
-// How many words the path of an order has. The order is refused by its form before the chart is read.
+// How many words the path of an order has. The order is refused by its form before the chart is read. Its words are a frame of their
+// own: without an order no page of them is touched.
+#[inline(never)]
 fn find_path(chart: &[u8], order: &[u8], path: &mut [u32]) -> Result<usize, Refused>
     requires { path.old ≡ replicate 2047 0 }
     ensures { FoundIs result path.new (order_path chart.now order.now) }

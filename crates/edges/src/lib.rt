@@ -10,7 +10,7 @@ ghost use Rattle.edges.specs.Edges.{next_at, edges_left, Advances};
 
 // "a small cursor that holds the slice of links it walks": the edge numbers, the place of the next one, and where those of the
 // vertex end.
-#[derive(Clone, Drop)]
+#[derive(Clone, Copy)]
 pub struct SimpleGraphEdges<'a> {
     pub numbers: &'a [u32],
     pub place: usize,

@@ -4,6 +4,7 @@ use Rattle.std.specs.Prelude.{◌≡◌, List, ℕ, Err}
 use Rattle.model.specs.declared.Refusal.{Refusal}
 use Rattle.model.specs.declared.Search.{Search}
 use Rattle.model.specs.declared.Stepped.{Stepped}
+use Rattle.model.specs.Answers.{number, refused, step_reply}
 use Rattle.dijkstra.specs.Calls.{Stepping}
 use Rattle.in_place.specs.declared.StepReport.{StepReport}
 
@@ -15,4 +16,4 @@ stepped_as r s = record { answer = r.answer; tickets = r.tickets; search = s }
 abbrev pub Demand1 : Type 0
 Demand1 =
     (ws : List ℕ) (s s' : Search) (r : StepReport) (left : List ℕ) → Stepping ws s (stepped_as r s') left
-    → (f : Refusal) → r.answer ≡ Err f → (left ≡ ws) × ((s' ≡ s) × (r.tickets ≡ 0))
+    → (f : Refusal) → r.answer ≡ Err f → (left ≡ ws) × ((s' ≡ s) × ((r.tickets ≡ 0) × (step_reply r.answer ≡ refused (number f) 0)))

@@ -3,9 +3,11 @@
 -- Assumes nothing.
 use mathlib.Core.Path.{◌≡◌, refl, sym, ap, ap₂, ◌∙◌}
 use Rattle.model.specs.declared.Search.{Search}
+use Rattle.std.specs.declared.option.Option.{Option}
 use Rattle.std.specs.declared.result.Result.{Result}
 use Rattle.model.specs.declared.Refused.{Refused}
-use Rattle.std.specs.Prelude.{Err, Ok}
+use Rattle.std.specs.Prelude.{Err, Ok, None, Some}
+use Rattle.std.specs.Result.{result_err}
 use mathlib.Core.List.{List, [], ◌∷◌, map}
 use Prim.Native.Nat.{ℕ, ◌-◌}
 use native.Mathlib.Omega.{arith}
@@ -60,6 +62,11 @@ abbrev initialize_from : Reply (Unit {0}) → Search → Result Search Refusal
 initialize_from (answered u) s = Ok s
 initialize_from (refused n line) s = Err (refusal_of n)
 
+-- the refusal, or that there is none, which the reply tells without the record
+abbrev refusal_from : Reply (Unit {0}) → Option Refusal
+refusal_from (answered u) = None
+refusal_from (refused n line) = Some (refusal_of n)
+
 abbrev step_from : Reply Status → Result SearchStatus Refusal
 step_from (answered s) = Ok (status_from s)
 step_from (refused n line) = Err (refusal_of n)
@@ -76,6 +83,10 @@ initialize-from : (a : Result Search Refusal) → initialize_from (initialize_re
 initialize-from (Ok s) = refl
 initialize-from (Err r) = ap Err (refusal_is r)
 
+refusal-from : (a : Result Search Refusal) → refusal_from (initialize_reply a) ≡ result_err a
+refusal-from (Ok s) = refl
+refusal-from (Err r) = ap Some (refusal_is r)
+
 step_from_lem : (a : Result SearchStatus Refusal) → step_from (step_reply a) ≡ a
 step_from_lem (Ok s) = ap Ok (status-is s)
 step_from_lem (Err r) = ap Err (refusal_is r)
@@ -90,6 +101,10 @@ open_told a b e = sym (open-from a) ∙ ap open_from e ∙ open-from b
 
 pub initialize-told : (a b : Result Search Refusal) → initialize_reply a ≡ initialize_reply b → opened_search a ≡ opened_search b → a ≡ b
 initialize-told a b e k = sym (initialize-from a) ∙ ap₂ initialize_from e k ∙ initialize-from b
+
+-- whatever the records are: both opened, or refused by the same
+pub initialize-answered : (a b : Result Search Refusal) → initialize_reply a ≡ initialize_reply b → result_err a ≡ result_err b
+initialize-answered a b e = sym (refusal-from a) ∙ ap refusal_from e ∙ refusal-from b
 
 pub step-told : (a b : Result SearchStatus Refusal) → step_reply a ≡ step_reply b → a ≡ b
 step-told a b e = sym (step_from_lem a) ∙ ap step_from e ∙ step_from_lem b

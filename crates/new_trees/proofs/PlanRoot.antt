@@ -2,12 +2,12 @@
 -- Assumes nothing.
 use mathlib.Core.Path.{◌≡◌, sym, ap, ap₂, ◌∙◌}
 use mathlib.Core.Bool.{Bool, true, false, not}
-use mathlib.Core.List.{List, [], ◌∷◌, ◌++◌}
+use mathlib.Core.List.{List}
 use Prim.Native.Nat.{ℕ, suc, ◌+◌, ◌-◌}
 use native.Mathlib.Omega.{arith}
 use borrow.Author.Tests.{eq-eqb, ne_eqb}
 use lib.Dec.{eqb}
-use lib.ListN.{length, get_or, set}
+use lib.ListN.{get_or, set}
 use Rattle.std.specs.Option.{is_some}
 use Rattle.std.specs.declared.option.Option.{Option}
 use Rattle.model.specs.declared.Search.{Search}
@@ -16,7 +16,6 @@ use Rattle.model.specs.Search.{with_entry}
 use Rattle.layout.specs.Layout.{initial_in, direction_in, trees_in}
 use Rattle.layout.specs.Read.{direction_of, cost_if, read_cache}
 use Rattle.layout.proofs.StartCosts.{cost-none, cost-some}
-use Rattle.arrayvec.specs.ArrayVec.{ArrayVec}
 use Rattle.new_trees.specs.declared.TreePlan.{TreePlan}
 use Rattle.new_trees.specs.Plant.{Planning, plan_if, CanPlanRoot, PlansRoot}
 use Rattle.new_trees.proofs.Planting.{root-cost-is}
@@ -41,14 +40,14 @@ module _ {ws table : List ℕ} {p : TreePlan} {v : ℕ} (h : CanPlanRoot ws tabl
       by-slot : {n : ℕ} → s ≡ n → plan_if (eqb (initial_cost (read_cache ws).domain v) absent) s (trees_in ws) v g ≡ plan_if false n (trees_in ws) v g
       by-slot e = ap₂ (λ (b : Bool) (n : ℕ). plan_if b n (trees_in ws) v g) (ne_eqb (initial_cost (read_cache ws).domain v) absent (λ z. cost-some said (told ∙ ap not some) (cost ∙ z))) e
 
-      pub plan-shares : (s ≡ 0 → ⊥) → {q : Search} → q ≡ with_entry p.search (s - 1) → PlansRoot ws table p v (record { search = q; starts = p.starts }) table
-      plan-shares nz e = (λ i. record { plan = record { search = e i; starts = p.starts }; table = table }) ∙ sym (by-slot {n = suc (s - 1)} (omega (arith, nz)))
+      pub plan-shares : (s ≡ 0 → ⊥) → {q : Search} → q ≡ with_entry p.search (s - 1) → PlansRoot ws table p v (record { search = q; starts = p.starts; count = p.count }) table
+      plan-shares nz e = (λ i. record { plan = record { search = e i; starts = p.starts; count = p.count }; table = table }) ∙ sym (by-slot {n = suc (s - 1)} (omega (arith, nz)))
 
-      pub plan-plants : s ≡ 0 → {u n : ℕ} → u ≡ trees_in ws → n ≡ length p.starts.items → {q : Search} → q ≡ with_entry p.search (u + n)
-          → {us : ArrayVec ℕ} → us.items ≡ p.starts.items ++ v ∷ [] → PlansRoot ws table p v (record { search = q; starts = us }) (set table v (u + n + 1))
-      plan-plants z eu en e eus =
+      pub plan-plants : s ≡ 0 → {u : ℕ} → u ≡ trees_in ws → {q : Search} → q ≡ with_entry p.search (u + p.count)
+          → PlansRoot ws table p v (record { search = q; starts = set p.starts p.count v; count = p.count + 1 }) (set table v (u + p.count + 1))
+      plan-plants z eu e =
           (λ i. record {
-            plan = record { search = (e ∙ ap₂ (λ (a b : ℕ). with_entry p.search (a + b)) eu en) i; starts = record { items = eus i } };
-            table = set table v (eu i + en i + 1);
+            plan = record { search = (e ∙ ap (λ (n : ℕ). with_entry p.search (n + p.count)) eu) i; starts = set p.starts p.count v; count = p.count + 1 };
+            table = set table v (eu i + p.count + 1);
           })
           ∙ sym (by-slot {n = 0} z)

@@ -6,8 +6,8 @@ use mathlib.Core.Bool.{true, true≢false}
 use mathlib.Core.List.{List, [], ◌∷◌, map, map-append}
 use Prim.Native.Nat.{ℕ, suc, ◌+◌, ◌<◌, ◌≤◌}
 use native.Mathlib.Omega.{arith}
-use lib.ListN.{length, get_or, drop, length-map}
-use lib.Seq.{drop_at}
+use lib.ListN.{length, get_or, take, drop, length-map}
+use lib.Seq.{length-take-le, drop_at}
 use Rattle.model.specs.Lists.{mem}
 use Rattle.model.specs.Graph.{Domain}
 use Rattle.model.specs.Tree.{Tree, new_tree}
@@ -42,12 +42,15 @@ module _ {ws vs : List ℕ} {r : TreePlan} (ok : CanPlan ws vs) (p : Plans ws vs
   ts = (read_cache ws).trees
 
   abbrev new : List ℕ
-  new = r.starts.items
+  new = take r.count r.starts
 
-  pub planned-length : length (planted_in ws vs).trees ≡ trees_in ws + length new
-  planned-length = omega (arith, ap length p.trees, new-length d ts new, trees-length ws)
+  new-count : length new ≡ r.count
+  new-count = length-take-le r.count r.starts (omega (arith, p.count, p.starts))
 
-  pub planned-starts : new ≡ drop (length (read_cache ws).trees) (starts (planted_in ws vs).trees)
+  pub planned-length : length (planted_in ws vs).trees ≡ trees_in ws + r.count
+  planned-length = omega (arith, ap length p.trees, new-length d ts new, new-count, trees-length ws)
+
+  pub planned-starts : take r.count r.starts ≡ drop (length (read_cache ws).trees) (starts (planted_in ws vs).trees)
   planned-starts =
       sym (
       ap (λ (us : List Tree). drop (length ts) (starts us)) p.trees
@@ -58,5 +61,5 @@ module _ {ws vs : List ℕ} {r : TreePlan} (ok : CanPlan ws vs) (p : Plans ws vs
   planned-sound : SoundTrees d (planted_in ws vs).trees
   planned-sound = (plants-keep d vs ts (sound-cache ws ok.sound).trees (λ v e. rw (vertices-read ok.sound) (listed_below (vertices_in ws) vs ok.vertices v e))).0
 
-  pub can-plant-all : trees_in ws + length new ≤ slots_in ws → CanPlantAll ws new
-  can-plant-all room = record { sound = ok.sound; room = room; trees = rw (← p.trees) planned-sound }
+  pub can-plant-all : trees_in ws + r.count ≤ slots_in ws → CanPlantAll ws (take r.count r.starts)
+  can-plant-all room = record { sound = ok.sound; room = omega (arith, room, new-count); trees = rw (← p.trees) planned-sound }

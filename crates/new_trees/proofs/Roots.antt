@@ -5,10 +5,11 @@ use Rattle.std.specs.declared.option.Option.{Option}
 use Rattle.std.specs.Prelude.{None, Some}
 use mathlib.Core.Bool.{Bool, true, false}
 use mathlib.Core.List.{List, [], ◌∷◌, ◌++◌, append-nil, append_assoc}
-use Prim.Native.Nat.{ℕ, ◌+◌, ◌<◌, ◌≤◌}
+use Prim.Native.Nat.{ℕ, suc, ◌+◌, ◌<◌, ◌≤◌}
 use native.Mathlib.Omega.{arith}
 use lib.Dec.{eqb}
-use lib.ListN.{length, get_or, take, length-append}
+use lib.ListN.{length, get_or, set, take, replicate, length-set, length-append, length-take}
+use lib.Seq.{take-suc-set}
 use Rattle.model.specs.declared.TreeMemory.{TreeMemory}
 use Rattle.model.specs.declared.Search.{Search}
 use Rattle.model.specs.Graph.{Domain, absent, initial_cost}
@@ -17,7 +18,6 @@ use Rattle.model.specs.Search.{blank, entry_of, with_entry, seek, Planted, plant
 use Rattle.model.proofs.Filled.{set-filled}
 use Rattle.layout.specs.Read.{read_cache}
 use Rattle.sound.proofs.Facts.{trees-length}
-use Rattle.arrayvec.specs.ArrayVec.{ArrayVec}
 use Rattle.new_trees.specs.declared.TreePlan.{TreePlan}
 use Rattle.new_trees.specs.Plant.{with_new, CanPlan, slot_word, SlotTable, Planning, plan_if, PlansRoot}
 use Rattle.layout.specs.Planted.{planted_in}
@@ -62,8 +62,9 @@ entry_more es i h = λ x. record {
 pub record Matches (ws : List ℕ) (q : Planted) (n : ℕ) (p : TreePlan) (table : List ℕ) : Type 0 where
   pub search : p.search ≡ new_search q.entries []
   pub short : length q.entries ≤ n
-  pub count : length p.starts.items ≤ n
-  pub trees : q.trees ≡ with_new (read_cache ws).domain (read_cache ws).trees p.starts.items
+  pub count : p.count ≤ n
+  pub starts : length p.starts ≡ 64
+  pub trees : q.trees ≡ with_new (read_cache ws).domain (read_cache ws).trees (take p.count p.starts)
   pub slots : SlotTable q.trees table
 
 module _ {ws : List ℕ} {q : Planted} {n : ℕ} {p : TreePlan} {table : List ℕ} (h : Matches ws q n p table) (few : n < 64) where
@@ -73,8 +74,8 @@ module _ {ws : List ℕ} {q : Planted} {n : ℕ} {p : TreePlan} {table : List �
   abbrev ts : List Tree
   ts = (read_cache ws).trees
 
-  next-slot : length q.trees ≡ trees_in ws + length p.starts.items
-  next-slot = omega (arith, ap length h.trees, new-length d ts p.starts.items, trees-length ws)
+  next-slot : length q.trees ≡ trees_in ws + p.count
+  next-slot = omega (arith, ap length h.trees, new-length d ts (take p.count p.starts), length-take p.count p.starts, h.starts, h.count, trees-length ws)
 
   entered : (i : ℕ) → with_entry p.search i ≡ new_search (q.entries ++ (entry_of i ∷ [])) []
   entered i = ap (λ (s : Search). with_entry s i) h.search ∙ entry_more q.entries i (omega (arith, h.short))
@@ -89,6 +90,7 @@ module _ {ws : List ℕ} {q : Planted} {n : ℕ} {p : TreePlan} {table : List �
     search = h.search ∙ ap (λ (es : List TreeMemory). new_search es []) (sym (append-nil q.entries));
     short = rw (append-nil q.entries) (omega (arith, h.short));
     count = omega (arith, h.count);
+    starts = h.starts;
     trees = h.trees;
     slots = h.slots;
   }
@@ -96,27 +98,34 @@ module _ {ws : List ℕ} {q : Planted} {n : ℕ} {p : TreePlan} {table : List �
     search = entered i;
     short = more (entry_of i);
     count = omega (arith, h.count);
+    starts = h.starts;
     trees = h.trees;
     slots = h.slots;
   }
   root-matches v k false None e = record {
-    search = entered (trees_in ws + length p.starts.items) ∙ ap (λ (i : ℕ). new_search (q.entries ++ (entry_of i ∷ [])) []) (sym next-slot);
+    search = entered (trees_in ws + p.count) ∙ ap (λ (i : ℕ). new_search (q.entries ++ (entry_of i ∷ [])) []) (sym next-slot);
     short = more (entry_of (length q.trees));
-    count = omega (arith, length-append p.starts.items (v ∷ []), h.count);
-    trees = ap (λ (us : List Tree). us ++ (new_tree d v ∷ [])) h.trees ∙ new-append d ts p.starts.items (v ∷ []);
+    count = omega (arith, h.count);
+    starts = length-set p.starts p.count v ∙ h.starts;
+    trees =
+        let one : p.count + 1 ≡ suc p.count = omega arith in
+        ap (λ (us : List Tree). us ++ (new_tree d v ∷ [])) h.trees
+        ∙ new-append d ts (take p.count p.starts) (v ∷ [])
+        ∙ ap (with_new d ts) (sym (take-suc-set p.starts p.count v (omega (arith, h.starts, h.count))) ∙ ap (λ (m : ℕ). take m (set p.starts p.count v)) (sym one));
     slots = table_more h.slots (new_tree d v) (unfold new_tree in refl) k e (omega (arith, next-slot));
   }
 
 -- ---- the loop over the roots
 
-pub matches-none : {ws table : List ℕ} {s : Search} {us : ArrayVec ℕ} → s ≡ empty_search → us.items ≡ [] → SlotTable (read_cache ws).trees table
-    → Matches ws (planted_in ws []) 0 (record { search = s; starts = us }) table
+pub matches-none : {ws table : List ℕ} {s : Search} → s ≡ empty_search → SlotTable (read_cache ws).trees table
+    → Matches ws (planted_in ws []) 0 (record { search = s; starts = replicate 64 0; count = 0 }) table
 unfolding plant_all
-matches-none {ws} e none h = record {
+matches-none {ws} e h = record {
   search = e;
   short = omega arith;
-  count = omega (arith, ap length none);
-  trees = sym (ap (with_new (read_cache ws).domain (read_cache ws).trees) none ∙ append-nil (read_cache ws).trees);
+  count = omega arith;
+  starts = refl;
+  trees = sym (append-nil (read_cache ws).trees);
   slots = h;
 }
 

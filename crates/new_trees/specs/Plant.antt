@@ -1,6 +1,6 @@
 -- New trees in the words of a cache: what the code promises.
 -- Assumes nothing.
-use Rattle.std.specs.Prelude.{◌≡◌, Bool, true, false, List, [], ◌∷◌, ◌++◌, map, ℕ, zero, suc, ◌+◌, ◌<◌, ◌≤◌, eqb, length, get_or, set, replicate, None, Some}
+use Rattle.std.specs.Prelude.{◌≡◌, Bool, true, false, List, [], ◌∷◌, ◌++◌, map, ℕ, zero, suc, ◌+◌, ◌<◌, ◌≤◌, eqb, length, get_or, set, take, replicate, None, Some}
 use Rattle.std.specs.declared.option.Option.{Option}
 use Rattle.model.specs.Limits.{vertex_limit, list_limit}
 use Rattle.model.specs.Graph.{Domain, absent, initial_cost}
@@ -12,7 +12,6 @@ use Rattle.layout.specs.Layout.{slots_in, trees_in, vertices_in}
 use Rattle.layout.specs.Read.{read_cache}
 use Rattle.layout.specs.Planted.{planted_all, planted_in}
 use Rattle.sound.specs.Facts.{SoundWords}
-use Rattle.arrayvec.specs.ArrayVec.{array_vec_len}
 use Rattle.new_trees.specs.declared.TreePlan.{TreePlan}
 
 -- ---- planting: "New trees take the next slots in list order."
@@ -49,7 +48,9 @@ pub record CanPlan (ws vs : List ℕ) : Type 0 where
 pub record Plans (ws vs : List ℕ) (r : TreePlan) : Type 0 where
   pub search : r.search ≡ new_search (planted_in ws vs).entries []
   pub few : length (planted_in ws vs).entries ≤ list_limit
-  pub trees : (planted_in ws vs).trees ≡ with_new (read_cache ws).domain (read_cache ws).trees r.starts.items
+  pub count : r.count ≤ list_limit
+  pub starts : length r.starts ≡ list_limit
+  pub trees : (planted_in ws vs).trees ≡ with_new (read_cache ws).domain (read_cache ws).trees (take r.count r.starts)
 
 -- a slot as a word: 0 for none, else one more
 abbrev pub slot_word : Option ℕ → ℕ
@@ -69,7 +70,7 @@ pub record CanPlanRoot (ws table : List ℕ) (p : TreePlan) (v : ℕ) : Type 0 w
   pub sound : SoundWords ws
   pub len : length table ≡ vertex_limit
   pub entries : p.search.tree_count < list_limit
-  pub count : array_vec_len p.starts < list_limit
+  pub count : p.count < list_limit
   pub vertex : v < vertices_in ws
 
 pub record Planning : Type 0 where
@@ -80,11 +81,11 @@ pub record Planning : Type 0 where
 abbrev pub plan_if : Bool → ℕ → ℕ → ℕ → Planning → Planning
 plan_if true w used v g = g
 plan_if false (suc i) used v g =
-    record { plan = record { search = with_entry g.plan.search i; starts = g.plan.starts }; table = g.table }
+    record { plan = record { search = with_entry g.plan.search i; starts = g.plan.starts; count = g.plan.count }; table = g.table }
 plan_if false zero used v g =
     let p = g.plan in
-    let next = used + array_vec_len p.starts in
-    record { plan = record { search = with_entry p.search next; starts = record { items = p.starts.items ++ v ∷ [] } }; table = set g.table v (next + 1) }
+    let next = used + p.count in
+    record { plan = record { search = with_entry p.search next; starts = set p.starts p.count v; count = p.count + 1 }; table = set g.table v (next + 1) }
 
 abbrev pub PlansRoot : List ℕ → List ℕ → TreePlan → ℕ → TreePlan → List ℕ → Type 0
 PlansRoot ws table p v r table' =

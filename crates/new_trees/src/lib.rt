@@ -10,7 +10,6 @@ ghost use Rattle.layout.specs.Read.{read_cache};
 ghost use Rattle.new_trees.specs.Plant.{CanPlan, Plans, SlotTable, CanFindTrees, PlansRoot, CanPlanRoot, CanPlant, Plants, CanPlantAll, PlantsAll};
 ghost use Rattle.layout.specs.Planted.{root_words};
 
-use arrayvec::ArrayVec;
 use layout::root_cost;
 use layout::slots::{Slot, slot_of, slot_words};
 use model::Search;
@@ -18,10 +17,11 @@ use model::limits::{MAX_ENTRIES, MAX_VERTICES};
 use tree::Node;
 
 // The entries of a search, and the start vertices of the trees that are not there yet.
-#[derive(Drop)]
+#[derive(Clone, Copy)]
 pub struct TreePlan {
     pub search: Search,
-    pub starts: ArrayVec<u32, MAX_ENTRIES>,
+    pub starts: [u32; MAX_ENTRIES],
+    pub count: usize,
 }
 
 // An entry for each root, and one new tree for each start vertex that has none; nothing is written.
@@ -33,7 +33,8 @@ pub fn plan(words: &[u32], roots: &[u32]) -> TreePlan
     find_trees(words, &mut table);
     let mut plan = TreePlan {
         search: Search::empty(),
-        starts: ArrayVec::new(),
+        starts: [0; MAX_ENTRIES],
+        count: 0,
     };
     for root in roots {
         plan_root(words, &mut table, &mut plan, *root);
@@ -66,9 +67,10 @@ fn plan_root(words: &[u32], table: &mut [u32], plan: &mut TreePlan, vertex: u32)
         plan.search = plan.search.with_entry(slot - 1);
         return;
     }
-    let next = (layout::header(words, layout::TREES) + plan.starts.len()) as u32;
+    let next = (layout::header(words, layout::TREES) + plan.count) as u32;
     plan.search = plan.search.with_entry(next);
-    plan.starts.push(vertex);
+    plan.starts[plan.count] = vertex;
+    plan.count += 1;
     table[vertex as usize] = next + 1;
 }
 

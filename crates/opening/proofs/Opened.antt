@@ -9,7 +9,7 @@ use mathlib.Core.List.{List}
 use Prim.Native.Nat.{ℕ, ◌-◌, ◌<◌, ◌≤◌}
 use native.Mathlib.Omega.{arith}
 use borrow.Author.Tests.{lt-ltb, le-ltb}
-use lib.ListN.{length}
+use lib.ListN.{length, take}
 use Rattle.model.specs.declared.Refusal.TheVariants.{TreesFull}
 use Rattle.model.specs.declared.Search.{Search}
 use Rattle.model.specs.Lists.{all_below}
@@ -32,32 +32,30 @@ can-open {ws} {vs} ok {m} count few goals below = record {
   goals = goals;
 }
 
--- r: what was planned, n new trees; t of the slots, u in use
-module _ {ws vs gs : List ℕ} (ok : CanOpenSearch ws vs gs) {r : TreePlan} (p : Plans ws vs r) {t u n : ℕ} (slots : t ≡ slots_in ws) (used : u ≡ trees_in ws)
-    (count : n ≡ length r.starts.items) where
-  new-count : length (planted_in ws vs).trees - trees_in ws ≡ n
-  new-count = omega (arith, planned-length ok.plan p, count)
+-- r: what was planned; t of the slots, u in use
+module _ {ws vs gs : List ℕ} (ok : CanOpenSearch ws vs gs) {r : TreePlan} (p : Plans ws vs r) {t u : ℕ} (slots : t ≡ slots_in ws) (used : u ≡ trees_in ws) where
+  new-count : length (planted_in ws vs).trees - trees_in ws ≡ r.count
+  new-count = omega (arith, planned-length ok.plan p)
 
-  pub no-slots : t - u < n → {o : Result Search Refusal} → o ≡ Err TreesFull → OpensSearch ws vs gs o ws
+  pub no-slots : t - u < r.count → {o : Result Search Refusal} → o ≡ Err TreesFull → OpensSearch ws vs gs o ws
   no-slots h {o} e =
       let full : slots_in ws - trees_in ws < length (planted_in ws vs).trees - trees_in ws = omega (arith, h, slots, used, new-count) in
       subst (λ (b : Bool). OpensIf b ws vs gs o ws) (sym (lt-ltb _ _ full)) (e, refl)
 
-  -- us: the starts as they are lent
-  module _ (h : n ≤ t - u) {us : List ℕ} (lent : us ≡ r.starts.items) where
-    pub can-plant : CanPlantAll ws us
-    can-plant = rw lent (can-plant-all ok.plan p (omega (arith, h, slots, used, count, ok.plan.sound.used)))
+  module _ (h : r.count ≤ t - u) where
+    pub can-plant : CanPlantAll ws (take r.count r.starts)
+    can-plant = can-plant-all ok.plan p (omega (arith, h, slots, used, ok.plan.sound.used))
 
     pub takes-goals : CanTakeGoals r.search gs
     takes-goals = record { room = omega (arith, ok.goals, ap (λ (s : Search). s.goal_count) p.search) }
 
-    pub is-opened : (left : List ℕ) → PlantsAll ws us left → (s : Search) → s ≡ with_goals r.search gs → OpensSearch ws vs gs (Ok s) left
+    pub is-opened : (left : List ℕ) → PlantsAll ws (take r.count r.starts) left → (s : Search) → s ≡ with_goals r.search gs → OpensSearch ws vs gs (Ok s) left
     is-opened left q s e =
         let room : length (planted_in ws vs).trees - trees_in ws ≤ slots_in ws - trees_in ws = omega (arith, h, slots, used, new-count) in
-        let new : r.starts.items ≡ new_starts ws vs = planned-starts ok.plan p in
+        let new : take r.count r.starts ≡ new_starts ws vs = planned-starts ok.plan p in
         subst (λ (b : Bool). OpensIf b ws vs gs (Ok s) left) (sym (le-ltb _ _ room))
         (record {
           result = ap Ok (e ∙ ap (λ (x : Search). with_goals x gs) p.search ∙ goals-taken (planted_in ws vs).entries gs ok.goals);
           trees = p.trees ∙ ap (with_new (read_cache ws).domain (read_cache ws).trees) new;
-          plants = subst (λ (l : List ℕ). PlantsAll ws l left) (lent ∙ new) q;
+          plants = subst (λ (l : List ℕ). PlantsAll ws l left) new q;
         })

@@ -44,10 +44,10 @@ fn open_search(words: &mut [u32], roots: &[u32], goals: &[u32]) -> Result<Search
 {
     let plan = new_trees::plan(words, roots);
     let unused = layout::header(words, layout::SLOTS) - layout::header(words, layout::TREES);
-    if unused < plan.starts.len() {
+    if unused < plan.count {
         return Err(Refusal::TreesFull);
     }
-    new_trees::plant_all(words, &plan.starts);
+    new_trees::plant_all(words, &plan.starts[..plan.count]);
     Ok(with_goals(plan.search, goals))
 }
 

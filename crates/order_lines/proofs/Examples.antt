@@ -1,6 +1,6 @@
 -- Orders read and lines printed, by computing the definitions.
 -- Assumes nothing.
-use mathlib.Core.Path.{◌≡◌, refl}
+use mathlib.Core.Path.{◌≡◌, refl, ap}
 use mathlib.Core.List.{List, [], ◌∷◌, ◌++◌}
 use Prim.Native.Nat.{ℕ, zero, suc}
 use lib.ListN.{replicate}
@@ -8,8 +8,10 @@ use Rattle.std.specs.Prelude.{Some, None}
 use Rattle.text.specs.Bytes.{bytes}
 use Rattle.order_lines.specs.declared.answers.Answer.TheVariants as answer
 use Rattle.order_lines.specs.declared.orders.Form.TheVariants.{Forward, Backward}
+use Rattle.order_lines.specs.declared.numbers.Numbers.{Numbers}
 use Rattle.order_lines.specs.Answers.{answer_line, refused_line}
 use Rattle.order_lines.specs.Orders.{numbers_in, order_of}
+use Rattle.order_lines.proofs.Lists.{same_handed}
 
 forward : order_of (bytes "F,0 1,2") ≡ Some (record { form = Forward; starts = numbers_in (0 ∷ 1 ∷ []); goals = numbers_in (2 ∷ []) })
 unfolding order_of
@@ -46,7 +48,7 @@ two-letters = refl
 -- handed on as 4294967295
 past-32-bits : order_of (bytes "F,4294967296,") ≡ Some (record { form = Forward; starts = numbers_in (4294967295 ∷ []); goals = numbers_in [] })
 unfolding order_of
-past-32-bits = refl
+past-32-bits = ap (λ (x : Numbers). Some (record { form = Forward; starts = x; goals = numbers_in [] })) (same_handed (4294967296 ∷ []) (4294967295 ∷ []) refl)
 
 -- `1 ` n times over, before a text
 unfoldable ones : ℕ → List ℕ → List ℕ
@@ -59,7 +61,7 @@ many end = bytes "F," ++ ones 65 end
 
 list-of-66 : order_of (many (bytes "2,")) ≡ Some (record { form = Forward; starts = numbers_in (replicate 65 1); goals = numbers_in [] })
 unfolding order_of ones
-list-of-66 = refl
+list-of-66 = ap (λ (x : Numbers). Some (record { form = Forward; starts = x; goals = numbers_in [] })) (same_handed (replicate 65 1 ++ (2 ∷ [])) (replicate 65 1) refl)
 
 last-of-66 : order_of (many (bytes "02,")) ≡ None
 unfolding order_of ones

@@ -1,10 +1,13 @@
 -- The lines of an order sheet that are read.
 -- Assumes nothing.
-use Rattle.std.specs.Prelude.{Bool, true, false, Some, None, List, [], ◌∷◌, map, ℕ, ◌+◌, min, take}
+use Rattle.std.specs.Prelude.{◌≡◌, Bool, true, false, Some, None, List, [], ◌∷◌, ◌++◌, map, ℕ, ◌+◌, ◌-◌, ◌≤◌, min, length, take, replicate}
 use Rattle.std.specs.declared.option.Option.{Option}
+use Rattle.std.proofs.Common.{subst, sym}
+use Rattle.std.proofs.lemmas.List.{length-take}
+use Rattle.std.proofs.Math.Nat.{min-le_left}
 use Rattle.model.specs.Limits.{list_limit}
 use Rattle.text.specs.Bytes.{comma, parted, is_only, number_of}
-use Rattle.arrayvec.specs.ArrayVec.{ArrayVec}
+use Rattle.order_lines.specs.declared.numbers.Numbers.{Numbers}
 use Rattle.order_lines.specs.declared.orders.Form.{Form}
 use Rattle.order_lines.specs.declared.orders.Form.TheVariants.{Forward, Backward}
 use Rattle.order_lines.specs.declared.orders.Order.{Order}
@@ -44,14 +47,17 @@ handed_limit = 1 + list_limit
 abbrev pub handed : List ℕ → List ℕ
 handed l = take handed_limit (map (min 4294967295) l)
 
-abbrev pub numbers_in : List ℕ → ArrayVec ℕ
-numbers_in l = record { items = handed l }
+pub handed-few : (l : List ℕ) → length (handed l) ≤ handed_limit
+handed-few l = subst (λ (n : ℕ). n ≤ handed_limit) (sym (length-take handed_limit (map (min 4294967295) l))) (min-le_left handed_limit (length (map (min 4294967295) l)))
 
-abbrev pub list_by : Option (List ℕ) → Option (ArrayVec ℕ)
+abbrev pub numbers_in : List ℕ → Numbers
+numbers_in l = record { numbers = handed l ++ replicate (handed_limit - length (handed l)) 0; count = length (handed l); within = handed-few l }
+
+abbrev pub list_by : Option (List ℕ) → Option Numbers
 list_by None = None
 list_by (Some l) = Some (numbers_in l)
 
-unfoldable pub list_of : ℕ → List ℕ → Option (ArrayVec ℕ)
+unfoldable pub list_of : ℕ → List ℕ → Option Numbers
 unfolding field_numbers
 list_of b f = list_by (field_numbers b f)
 
@@ -66,7 +72,7 @@ form_by false false = None
 abbrev pub form_of : List ℕ → Option Form
 form_of d = form_by (is_only letter_f d) (is_only letter_b d)
 
-abbrev pub order_told : Option Form → Option (ArrayVec ℕ) → Option (ArrayVec ℕ) → Option Order
+abbrev pub order_told : Option Form → Option Numbers → Option Numbers → Option Order
 order_told None s g = None
 order_told (Some f) None g = None
 order_told (Some f) (Some s) None = None
@@ -83,3 +89,9 @@ order_from (d ∷ s ∷ g ∷ h ∷ hs) = None
 unfoldable pub order_of : List ℕ → Option Order
 unfolding list_of parted
 order_of l = order_from (parted comma l)
+
+-- ---- what the functions beneath promise each other
+
+-- y is x with one number more, if fewer than `handed_limit` are kept
+abbrev pub Pushed : Numbers → ℕ → Numbers → Type 0
+Pushed x n y = (l : List ℕ) → x ≡ numbers_in l → y ≡ numbers_in (l ++ (n ∷ []))

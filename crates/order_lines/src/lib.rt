@@ -3,4 +3,5 @@
 #![tactic(auto)]
 
 pub mod answers;
+pub mod numbers;
 pub mod orders;

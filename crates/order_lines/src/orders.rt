@@ -1,16 +1,13 @@
 // An order is `F` or `B`, starts, goals; the lists are parted by single spaces, numbers as in a graph's text.
-ghost use Rattle.std.specs.Prelude.{◌≡◌};
-ghost use Rattle.order_lines.specs.Orders.{order_of, list_of, form_of};
+ghost use Rattle.std.specs.Prelude.{◌≡◌, []};
+ghost use Rattle.order_lines.specs.Orders.{order_of, list_of, numbers_in, form_of, Pushed};
 
-use arrayvec::ArrayVec;
+pub use crate::numbers::Numbers;
 use model::limits::MAX_ENTRIES;
 use text::bytes::{capped, read_number};
 
 // The longest list that can be told from one of 64.
 pub const MAX_LIST: usize = 1 + MAX_ENTRIES;
-
-// The first 65 numbers of a list. A longer list is over 01's limit of 64 as well.
-pub type Numbers = ArrayVec<u32, MAX_LIST>;
 
 #[derive(Clone, Copy)]
 pub enum Form {
@@ -18,7 +15,7 @@ pub enum Form {
     Backward,
 }
 
-#[derive(Drop)]
+#[derive(Clone, Copy)]
 pub struct Order {
     pub form: Form,
     pub starts: Numbers,
@@ -60,15 +57,34 @@ pub fn read_letter(field: &[u8]) -> Option<Form>
 pub fn read_list(field: &[u8], b: u8) -> Option<Numbers>
     ensures { result ≡ list_of b field.now }
 {
-    let mut list = ArrayVec::new();
+    let mut list = empty_list();
     if field.is_empty() {
         return Some(list);
     }
     for number in field.split(|x| *x == b) {
-        let n = read_number(number)?;
-        if !list.is_full() {
-            list.push(capped(n));
-        }
+        list.push(read_number(number)?);
     }
     Some(list)
+}
+
+pub fn empty_list() -> Numbers
+    ensures { result ≡ numbers_in [] }
+{
+    Numbers {
+        numbers: [0; MAX_LIST],
+        count: 0,
+    }
+}
+
+impl Numbers {
+    // One number more, if it is still kept.
+    fn push(&mut self, n: usize)
+        ensures { Pushed self.old n self.new }
+    {
+        let fits = self.count < MAX_LIST;
+        if fits {
+            self.numbers[self.count] = capped(n);
+            self.count += 1;
+        }
+    }
 }

@@ -7,10 +7,10 @@ use Rattle.model.specs.declared.Refusal.{Refusal}
 use Rattle.std.specs.Prelude.{Err, Ok, None, Some}
 use mathlib.Core.Bool.{Bool, true, false}
 use mathlib.Core.List.{List}
-use Prim.Native.Nat.{ℕ, ◌+◌, ◌*◌, ◌<◌}
+use Prim.Native.Nat.{ℕ, ◌+◌, ◌*◌, ◌<◌, ◌≤◌}
 use native.Mathlib.Omega.{arith}
 use lib.Dec.{ltb}
-use lib.ListN.{replicate}
+use lib.ListN.{length, replicate}
 use Rattle.model.specs.declared.Search.{Search}
 use Rattle.model.specs.Answers.{Reply, answered, Status, initialize_reply, step_reply}
 use Rattle.model.specs.Sound.{tree}
@@ -29,10 +29,15 @@ use Rattle.unchecked.specs.Retrace.{retrace_node_if, retrace_shown}
 use Rattle.unchecked.specs.Run.{RunsToEnd, RunsAfter, Runs}
 use Rattle.order_lines.specs.declared.answers.Answer.{Answer}
 use Rattle.order_lines.specs.declared.answers.Line.{Line}
+use Rattle.order_lines.specs.declared.orders.Form.{Form}
+use Rattle.order_lines.specs.declared.orders.Form.TheVariants.{Forward, Backward}
+use Rattle.order_lines.specs.declared.orders.Order.{Order}
+use Rattle.order_lines.specs.Orders.{order_of}
 use Rattle.order_lines.specs.Answers.{answer_line}
 use Rattle.put_text.specs.Puts.{Puts}
 use Rattle.order_run.specs.Orders.{answer_of, line_for, shown_text, driven_by, driven_text, ordered_by, Ordered, ordered}
-use Rattle.order_run.specs.Run.{path_line, shown_line, held_line, Ran}
+use Rattle.order_run.specs.Run.{path_line, shown_line, held_line, Ran, RanOn, RanBy, RanLine}
+use Rattle.order_run.proofs.Within.{put-within}
 use Rattle.order_run.proofs.Sizes.{path-taken}
 
 pub puts-as : {out t t' left : List ℕ} {r : ℕ} → t ≡ t' → Puts out 0 t r left → Puts out 0 t' r left
@@ -143,3 +148,17 @@ module _ {ws ss gs : List ℕ} {r : SearchRun} {left : List ℕ} (h : Runs ws ss
       go : (x : Result Search Refusal) → RunsAfter x h.mid r left → Shows left r.shown
       go (Err f) k = subst (Shows left) (sym (ap (λ (y : SearchRun). y.shown) k.0)) tt
       go (Ok s) k = k.shows
+
+-- ---- an order's line, which was read
+
+-- whatever its form, an order's line is within the bytes lent
+by-within : (x : Option Order) (fs bs : List ℕ) (i : ℕ) (out : List ℕ) (r : ℕ) (fs' bs' out' : List ℕ) → RanBy x fs bs i out r fs' bs' out' → r ≤ length out'
+by-within None fs bs i out r fs' bs' out' h = put-within h.text
+by-within (Some o) fs bs i out r fs' bs' out' h = go o.form h
+  where
+    go : (f : Form) → RanOn f fs bs i o out r fs' bs' out' → r ≤ length out'
+    go Forward k = put-within k.ran.text
+    go Backward k = put-within k.ran.text
+
+pub line-within : (fs bs : List ℕ) (i : ℕ) (l out : List ℕ) (r : ℕ) (fs' bs' out' : List ℕ) → RanLine fs bs i l out r fs' bs' out' → r ≤ length out'
+line-within fs bs i l = by-within (order_of l) fs bs i

@@ -1,6 +1,6 @@
 -- What the functions that run an order and put its line promise each other: the bytes of the line, and the cache left.
 -- Assumes nothing.
-use Rattle.std.specs.Prelude.{◌≡◌, Bool, true, false, List, [], ℕ, ◌+◌, ◌*◌, ◌<◌, ◌≤◌, ltb, length, Ok, None, Some}
+use Rattle.std.specs.Prelude.{◌≡◌, Bool, true, false, List, [], ℕ, ◌+◌, ◌*◌, ◌<◌, ◌≤◌, ltb, length, take, Ok, None, Some}
 use Rattle.std.specs.declared.option.Option.{Option}
 use Rattle.model.specs.Answers.{answered, refused}
 use Rattle.model.specs.Sound.{tree}
@@ -16,6 +16,7 @@ use Rattle.cache.specs.Open.{Opening}
 use Rattle.memory.specs.declared.Shown.{Shown}
 use Rattle.memory.specs.declared.held_node.HeldNode.{HeldNode}
 use Rattle.memory.specs.Standing.{shown_node}
+use Rattle.order_lines.specs.declared.numbers.Numbers.{Numbers}
 use Rattle.order_lines.specs.declared.orders.Form.{Form}
 use Rattle.order_lines.specs.declared.orders.Form.TheVariants.{Forward, Backward}
 use Rattle.order_lines.specs.declared.orders.Order.{Order}
@@ -25,6 +26,10 @@ use Rattle.order_lines.specs.Answers.{answer_line}
 use Rattle.put_text.specs.Puts.{Puts}
 use Rattle.order_run.specs.Lent.{max_bytes, lent_slots}
 use Rattle.order_run.specs.Orders.{ordered, refused_order, RightLine}
+
+-- the numbers of a list that was read
+abbrev pub listed : Numbers → List ℕ
+listed x = take x.count x.numbers
 
 -- an order's number, and the bytes lent for its line
 pub record CanPut (n : ℕ) (out : List ℕ) : Type 0 where
@@ -66,7 +71,7 @@ pub record Ran (ws : List ℕ) (i : ℕ) (ss gs out : List ℕ) (r : ℕ) (left 
 
 -- an order goes to the words of its direction, fs forward or bs backward; the others stay
 pub record RanIn (ws ws' : List ℕ) (i : ℕ) (o : Order) (out : List ℕ) (r : ℕ) (left left' out' : List ℕ) : Type 0 where
-  pub ran : Ran ws i o.starts.items o.goals.items out r left out'
+  pub ran : Ran ws i (listed o.starts) (listed o.goals) out r left out'
   pub stays : left' ≡ ws'
 
 pub record NotRun (fs bs : List ℕ) (i : ℕ) (out : List ℕ) (r : ℕ) (fs' bs' out' : List ℕ) : Type 0 where

@@ -15,6 +15,7 @@ use Rattle.order_lines.specs.Orders.{order_of}
 use Rattle.order_lines.specs.Answers.{refused_line}
 use Rattle.order_run.specs.Lent.{max_bytes, lent_words, lent_slots}
 use Rattle.order_run.specs.Orders.{Ordered, ordered, refused_order}
+use Rattle.order_run.specs.Run.{listed}
 
 -- "(order number, answer, total, waits, tickets, run ..)"
 unfoldable pub title : List ℕ
@@ -37,8 +38,8 @@ abbrev pub on_backward : Caches → Ordered → PrintedOrder
 on_backward c r = record { caches = record { forward = c.forward; backward = r.cache }; text = r.text }
 
 abbrev pub printed_on : Form → ℕ → Caches → Order → PrintedOrder
-printed_on Forward i c o = on_forward c (ordered i c.forward o.starts.items o.goals.items)
-printed_on Backward i c o = on_backward c (ordered i c.backward o.starts.items o.goals.items)
+printed_on Forward i c o = on_forward c (ordered i c.forward (listed o.starts) (listed o.goals))
+printed_on Backward i c o = on_backward c (ordered i c.backward (listed o.starts) (listed o.goals))
 
 -- "An order without this form is refused 1, before any opening."
 abbrev pub printed_order_by : Option Order → ℕ → Caches → PrintedOrder

@@ -196,7 +196,7 @@ module _ (p : List ℕ) where
 -- a refused retrace leaves the slice
 not_written : (left : List ℕ) (s : Search) (p : List ℕ) (t : Result ℕ Refusal) (q : List ℕ) → Retracing left s p t q → is_answered (retrace_reply t) ≡ false → q ≡ p
 not_written left s p (Ok n) q k e = absurd (true≢false e)
-not_written left s p (Err f) q k e = (calls.demand-1).2 left s p (Err f) q k f refl
+not_written left s p (Err f) q k e = ((calls.demand-1).2 left s p (Err f) q k f refl).0
 
 module _ {ws ss gs p : List ℕ} where
   room : {r : Planned} {left q : List ℕ} → CallsMade ws ss gs p r left q

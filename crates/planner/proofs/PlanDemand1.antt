@@ -51,11 +51,12 @@ opening-may false c ss gs n line e = let z : 7 ≡ n = cc in subst May z tt
 
 module _ (ws ss gs p : List ℕ) (f : Refusal) where
   refused-leaves : {r : Planned} {left q : List ℕ} → CallsMade ws ss gs p r left q → step_reply r.answer ≡ refused (number f) 0
-      → (left ≡ ws) × (q ≡ p) × (r.search ≡ empty_search) × (r.has_path ≡ false) × (r.waits ≡ 0) × (r.tickets ≡ 0) × MayRefuse f
+      → (left ≡ ws) × (q ≡ p) × (r.search ≡ empty_search) × (r.has_path ≡ false) × (r.waits ≡ 0) × (r.tickets ≡ 0)
+      × (step_reply r.answer ≡ refused (number f) 0) × MayRefuse f
   refused-leaves (not_opened {left = left} g i) told =
       let same : number g ≡ number f = cc in
       let may : May (number g) = opening-may (sound_wordsb ws) (read_cache ws) ss gs (number g) 0 (refused-is ws ss gs p i) in
-      ((calls.demand-1).0 ws ss gs (Err g) left i g refl, refl, refl, refl, refl, refl, subst MayRefuse (refusal_is f) (subst May same may))
+      (((calls.demand-1).0 ws ss gs (Err g) left i g refl).0, refl, refl, refl, refl, refl, told, subst MayRefuse (refusal_is f) (subst May same may))
   refused-leaves (to_the_end x e t i s k) told = absurd (answered-refused _ (number f) 0 (sym (end-told ws ss gs p i s) ∙ told))
 
 pub demand-1 : Demand1

@@ -3,7 +3,7 @@
 use mathlib.Core.Path.{◌≡◌, refl, sym, ap, ap₂, ◌∙◌, subst}
 use Rattle.model.specs.Search.{empty_search}
 use Rattle.std.specs.declared.result.Result.{Result}
-use Rattle.std.specs.Prelude.{Err, Ok, None, is_ok}
+use Rattle.std.specs.Prelude.{Err, Ok, None}
 use mathlib.Core.Bool.{Bool, true, false}
 use mathlib.Core.List.{List}
 use Prim.Native.Nat.{ℕ}
@@ -124,10 +124,6 @@ pub not_sound : (ws ss gs p : List ℕ) → sound_wordsb ws ≡ false → {r : P
 not_sound ws ss gs p e {r} is =
     subst (λ (x : Planned). Planning ws ss gs p x ws p) (sym is) (not-planned ws ss gs p (opening.not_sound ws ss gs e))
 
-answered-ok : (t : Result ℕ Refusal) → is_ok t ≡ is_answered (retrace_reply t)
-answered-ok (Ok n) = refl
-answered-ok (Err f) = refl
-
 -- the node of a run can be shown
 pub run-shows : {ws ss gs : List ℕ} {r : SearchRun} {left : List ℕ} → Runs ws ss gs r left → Shows left r.shown
 run-shows {ws} {ss} {gs} {r} {left} h = go h.opened h.after
@@ -160,8 +156,8 @@ module _ (ws ss gs p : List ℕ) (ok : sound_wordsb ws ≡ true) {r : SearchRun}
       let s : Solving h.mid y max_steps (steps_of r) left = on-sound h.mid y sound max_steps (steps_of r) left x.solves in
       planned ws ss gs p i s t (retracing.on-sound left r.search p (s.sound ∙ sound) t q (k ∙ sym (x.retraces p)))
 
-  pub has-run : {b : Bool} → b ≡ is_ok t → Meets r b left q
-  has-run e = subst (λ (b : Bool). Meets r b left q) (sym (e ∙ answered-ok t)) (go h.opened refl h.after)
+  pub has-run : {b : Bool} → b ≡ is_answered (retrace_reply t) → Meets r b left q
+  has-run e = subst (λ (b : Bool). Meets r b left q) (sym e) (go h.opened refl h.after)
     where
       go : (a : Result Search Refusal) → h.opened ≡ a → RunsAfter a h.mid r left → Meets r (is_answered (retrace_reply t)) left q
       go (Err f) e x = refused-run f e x

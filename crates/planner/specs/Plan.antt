@@ -8,7 +8,7 @@ use Rattle.model.specs.declared.Planned.{Planned}
 use Rattle.model.specs.declared.Refusal.{Refusal}
 use Rattle.model.specs.declared.Refusal.TheVariants.{Malformed, OutOfOrder, NoSuchVertex, OverLimit, ShortCache, TreesFull, Unsound, InvalidSearch, NotSolved, ShortPath}
 use Rattle.model.specs.declared.StepsTaken.{StepsTaken}
-use Rattle.model.specs.Answers.{answered, refused, is_answered, solved, no_path, step_reply, retrace_reply}
+use Rattle.model.specs.Answers.{number, answered, refused, is_answered, solved, no_path, step_reply, retrace_reply}
 use Rattle.model.specs.Search.{empty_search, roots_of}
 use Rattle.model.specs.Calls.{Cache}
 use Rattle.model.specs.Solve.{is_waiting, max_steps}
@@ -75,12 +75,12 @@ MayRefuse InvalidSearch = ⊥
 MayRefuse NotSolved = ⊥
 MayRefuse ShortPath = ⊥
 
--- words and slice as they were, the empty record, no path, no steps
+-- words and slice as they were, the empty record, no path, no steps; "0 where no chart line is at fault"
 abbrev pub Demand1 : Type 0
 Demand1 =
-    (ws ss gs p : List ℕ) (r : Planned) (left q : List ℕ) → Planning ws ss gs p r left q
-    → (f : Refusal) → r.answer ≡ Err f
-    → (left ≡ ws) × (q ≡ p) × (r.search ≡ empty_search) × (r.has_path ≡ false) × (r.waits ≡ 0) × (r.tickets ≡ 0) × MayRefuse f
+    (ws ss gs p : List ℕ) (r : Planned) (left q : List ℕ) → Planning ws ss gs p r left q → (f : Refusal) → r.answer ≡ Err f
+    → (left ≡ ws) × (q ≡ p) × (r.search ≡ empty_search) × (r.has_path ≡ false) × (r.waits ≡ 0) × (r.tickets ≡ 0)
+    × (step_reply r.answer ≡ refused (number f) 0) × MayRefuse f
 
 -- ---- what follows from the promise
 

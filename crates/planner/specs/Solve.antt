@@ -5,7 +5,7 @@ use Rattle.std.specs.Prelude.{◌≡◌, Bool, true, false, List, [], ◌∷◌,
 use Rattle.model.specs.declared.Refusal.{Refusal}
 use Rattle.model.specs.declared.Search.{Search}
 use Rattle.model.specs.declared.StepsTaken.{StepsTaken}
-use Rattle.model.specs.Answers.{answered, refused, waiting, step_reply}
+use Rattle.model.specs.Answers.{number, answered, refused, waiting, step_reply}
 use Rattle.model.specs.Calls.{Cache}
 use Rattle.model.specs.Solve.{is_waiting, AfterSteps, solve}
 use Rattle.model.specs.Demands.{Call, stepping as steppingCall, reading, both, Act, own_step, Event, stepped}
@@ -50,8 +50,8 @@ pub record Solving (ws : List ℕ) (s : Search) (n : ℕ) (r : StepsTaken) (left
 
 abbrev pub Demand1 : Type 0
 Demand1 =
-    (ws : List ℕ) (s : Search) (n : ℕ) (r : StepsTaken) (left : List ℕ) → Solving ws s n r left
-    → (f : Refusal) → r.answer ≡ Err f → (left ≡ ws) × ((r.search ≡ s) × ((r.waits ≡ 0) × (r.tickets ≡ 0)))
+    (ws : List ℕ) (s : Search) (n : ℕ) (r : StepsTaken) (left : List ℕ) → Solving ws s n r left → (f : Refusal) → r.answer ≡ Err f
+    → (left ≡ ws) × ((r.search ≡ s) × ((r.waits ≡ 0) × ((r.tickets ≡ 0) × (step_reply r.answer ≡ refused (number f) 0))))
 
 -- ---- what follows from the promise
 

@@ -3,6 +3,7 @@
 #![tactic(auto)]
 
 ghost use Rattle.std.specs.Prelude.{◌≡◌};
+ghost use Rattle.model.specs.Answers.{is_answered, retrace_reply};
 ghost use Rattle.planner.specs.Solve.{Solving};
 ghost use Rattle.planner.specs.Plan.{Planning, not_planned};
 
@@ -42,7 +43,7 @@ pub fn plan(words: &mut [u32], starts: &[u32], goals: &[u32], path: &mut [u32]) 
     let retraced = unchecked::shown::retrace_shown(held_in(words, run.shown), path);
     Planned {
         answer: run.answer,
-        has_path: retraced.is_ok(),
+        has_path: has_moves(retraced),
         waits: run.waits,
         tickets: run.tickets,
         search: run.search,
@@ -59,4 +60,11 @@ fn not_planned(refusal: Refusal) -> Planned
         tickets: 0,
         search: Search::empty(),
     }
+}
+
+// Whether a path was written.
+fn has_moves(answer: Result<usize, Refusal>) -> bool
+    ensures { result ≡ is_answered (retrace_reply answer) }
+{
+    answer.is_ok()
 }

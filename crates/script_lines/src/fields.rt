@@ -1,6 +1,6 @@
 // A line: its name, the direction that it is about, and the fields behind its name, which are parted by spaces.
 use crate::names::{Name, read_name};
-use order_lines::orders::{Form, Numbers, read_letter, read_list};
+use order_lines::orders::{Form, Numbers, empty_list, read_letter, read_list};
 use text::fields::{Field, Fields, read_fields};
 
 // The longest list.
@@ -40,7 +40,7 @@ impl Call<'_> {
         let field = self.line.split(|b| *b == b' ').nth(i)?;
         match field {
             [] => None,
-            [b'-'] => Some(Numbers::new()),
+            [b'-'] => Some(empty_list()),
             _ if MAX_NUMBERS < field.split(|b| *b == b',').count() => None,
             _ => read_list(field, b','),
         }

@@ -9,7 +9,7 @@ use std::iter::once;
 pub const MAX_BYTES: usize = 262144;
 
 // The buffer's next byte, where its bytes end, and how often it may still be filled. No list: reading fills a buffer that is lent whole.
-#[derive(Drop)]
+#[derive(Clone, Copy)]
 pub struct Input {
     buffer: [u8; 65536],
     at: usize,

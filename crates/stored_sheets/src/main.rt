@@ -6,7 +6,6 @@ ghost use Rattle.std.specs.Prelude.{◌+◌, ◌≤◌, length, IsTrue, nat_le};
 ghost use Rattle.std.specs.List.{list_all};
 
 use put_text::put_bytes;
-use std::io;
 use std::rt::Files;
 
 // The longest name of a folder, and one of a file in it.
@@ -49,29 +48,28 @@ const FOLDERS: [&str; 34] = [
     "chart-folder",
 ];
 
-fn main(rt: HostRuntime) -> io::Result<()> {
-    print_cases(&rt, &FOLDERS)
+fn main(rt: HostRuntime) {
+    print_cases(&rt, &FOLDERS);
 }
 
-fn print_cases(rt: &(impl Files + Print + Eprint), folders: &[&str]) -> io::Result<()>
+fn print_cases(rt: &(impl Files + Print + Eprint), folders: &[&str])
     requires { IsTrue (list_all (λ s. nat_le (length s.now) 30) folders.now) }
 {
     for folder in folders {
-        print_case(rt, folder)?;
+        print_case(rt, folder);
     }
-    Ok(())
 }
 
-fn print_case(rt: &(impl Files + Print + Eprint), folder: &str) -> io::Result<()>
+// What cannot be written is passed over, as in the sheet below it.
+fn print_case(rt: &(impl Files + Print + Eprint), folder: &str)
     requires { length folder.now ≤ 30 }
 {
-    println!(rt; "# {folder}")?;
+    let _unwritten = println!(rt; "# {folder}");
     let mut chart = [0; NAME];
     let mut orders = [0; NAME];
     let chart = name_in(folder, "/chart.txt", &mut chart);
     let orders = name_in(folder, "/orders.txt", &mut orders);
     order_sheet::files::run_files(rt, chart, orders);
-    Ok(())
 }
 
 // The name of a file in a folder, which stands in the bytes lent.

@@ -5,6 +5,7 @@ use mathlib.Core.Bool.{Bool, true, false, ◌&&◌}
 use mathlib.Core.List.{List, [], ◌∷◌, ◌++◌, append-nil, append_assoc}
 use mathlib.Core.Logic.{◌≢◌}
 use Prim.Native.Nat.{ℕ, zero, suc, ◌+◌, ◌-◌, ◌*◌, ◌/◌, ◌%◌, ◌^◌, ◌<◌, ◌≤◌}
+use native.Mathlib.Nat.{add-zero, pow-suc}
 use native.Mathlib.Decide.{dec_le}
 use native.Mathlib.Omega.{arith}
 use borrow.Author.Tests.{ltb-true, ltb-false, leb-true, lt-ltb, le-ltb, le-leb}
@@ -12,10 +13,11 @@ use lib.Dec.{leb, ltb}
 use lib.ListN.{length, length-append}
 use Rattle.std.specs.Prelude.{Some, None}
 use Rattle.std.specs.declared.option.Option.{Option}
-use Rattle.text.specs.Bytes.{is_digit, legal_if, digits_from, number_of}
+use Rattle.model.specs.Lists.{allb}
+use Rattle.text.specs.Bytes.{is_digit, legal_if, digits_from, number_tests, number_of}
 use Rattle.text.specs.Print.{digits_by, decimal_in, decimal}
 use Rattle.text.proofs.Pieces.{Above, above-append, above-less}
-use Rattle.text.proofs.Numbers.{number-empty, number-long, number-zero, number-one, number_more}
+use Rattle.text.proofs.Numbers.{digits-fit, number-empty, number-long, number-zero, number-one, number_more}
 
 -- ---- digits read on
 
@@ -53,6 +55,16 @@ digit-first v x l n e = go (leb 48 x) refl (leb x 57) refl e
     go true low true high q = (leb-true 48 x low, leb-true x 57 high, q)
     go true low false high q = absurd (of-legal n q)
     go false low b high q = absurd (of-legal n q)
+
+digits-below : (l : List ℕ) (v k n : ℕ) → v < 10 ^ k → digits_from v l ≡ Some n → n < 10 ^ (k + length l)
+unfolding digits_from
+digits-below [] v k n h e =
+    let same : v ≡ n = cc in
+    rw (← same, add-zero k) h
+digits-below (x ∷ l) v k n h e =
+    let d = digit-first v x l n e in
+    let long : suc k + length l ≡ k + suc (length l) = omega arith in
+    rw (← long) (digits-below l (v * 10 + (x - 48)) (suc k) n (rw (pow-suc 10 k) (omega (arith, d.0, d.1))) d.2)
 
 -- ---- the text of a number
 
@@ -151,6 +163,14 @@ decimal-digits x xs n few head e =
 -- what is read as a number has at most 10 digits
 number-few : (l : List ℕ) (n : ℕ) → number_of l ≡ Some n → length l ≤ 10
 number-few l n e = elim (dec_le (length l) 10) [ yes h ↦ h | no h ↦ absurd (of-legal n (sym (number-long l (omega arith)) ∙ e)) ]
+
+pub number_small : (l : List ℕ) (n : ℕ) → number_of l ≡ Some n → n ≤ 9999999999
+unfolding number_of
+number_small l n e = omega (arith, digits-fit n (0 + length l) (digits-below l 0 0 n (omega arith) (go (allb (number_tests l)) e)) (omega (arith, number-few l n e)))
+  where
+    go : (t : Bool) → legal_if t (digits_from 0 l) ≡ Some n → digits_from 0 l ≡ Some n
+    go true q = q
+    go false q = absurd (of-legal n q)
 
 pub decimal-number : (l : List ℕ) (n : ℕ) → number_of l ≡ Some n → l ≡ decimal n
 decimal-number [] n e = absurd (of-legal n (sym (number-empty [] refl) ∙ e))

@@ -1,21 +1,25 @@
 -- A line by its pieces between commas: `Lines.line_of`, which goes by its fields, says the same.
 -- Assumes nothing.
-use mathlib.Core.Path.{◌≡◌, refl, sym}
+use mathlib.Core.Path.{◌≡◌, refl, sym, ap, ◌∙◌}
 use mathlib.Core.Bool.{Bool, true, false, cond}
 use mathlib.Core.List.{List, [], ◌∷◌}
-use Prim.Native.Nat.{ℕ, ◌+◌, ◌<◌}
+use Prim.Native.Nat.{ℕ, ◌+◌, ◌<◌, ◌≤◌}
 use native.Mathlib.Omega.{arith}
 use borrow.Author.Tests.{eqb-true, ne_eqb}
 use lib.Dec.{eqb}
 use lib.ListN.{length}
 use Rattle.std.specs.Prelude.{Some, None}
 use Rattle.std.specs.declared.option.Option.{Option}
+use Rattle.text.specs.declared.fields.Field.{Field}
+use Rattle.text.specs.declared.fields.Field.TheVariants.{Number, Hyphen, Other}
 use Rattle.text.specs.declared.fields.Fields.{Fields}
 use Rattle.text.specs.declared.lines.Line.{Line}
-use Rattle.text.specs.Bytes.{letter_l, letter_m, parted, parting, is_only}
-use Rattle.text.specs.Fields.{value_of, no_fields, with_field, fields_from}
+use Rattle.text.specs.Bytes.{letter_l, letter_m, parted, parting, is_only, number_of}
+use Rattle.text.specs.Fields.{value_by, value_of, no_fields, with_field, fields_from}
 use Rattle.text.specs.Lines.{vertex_by, vertex_of, edge_by, edge_of, lettered_line, line_of}
 use Rattle.text.proofs.Parted.{parted-some}
+use Rattle.text.proofs.OneByte.{only-is}
+use Rattle.text.proofs.Decimals.{of-legal, number_small}
 
 abbrev pub line_if : Bool → Option Line → Option Line
 line_if true x = x
@@ -30,6 +34,29 @@ piece_line (t ∷ f ∷ []) = None
 piece_line (t ∷ n ∷ c ∷ []) = line_if (is_only letter_m t) (vertex_by (value_of n) (value_of c))
 piece_line (t ∷ m ∷ n ∷ c ∷ []) = line_if (is_only letter_l t) (edge_by (value_of m) (value_of n) (value_of c))
 piece_line (t ∷ m ∷ n ∷ c ∷ f ∷ fs) = None
+
+-- ---- a piece is a number, `-` or neither
+
+pub value-cases : (P : Bool → Option ℕ → Field → Type 0) (p : List ℕ)
+    → P true None Hyphen
+    → ((n : ℕ) → n ≤ 9999999999 → P false (Some n) (Number n))
+    → P false None Other
+    → P (is_only 45 p) (number_of p) (value_of p)
+unfolding value_of number_of
+value-cases P p hyphen number neither = go (is_only 45 p) refl (number_of p) refl
+  where
+    go : (b : Bool) → is_only 45 p ≡ b → (n : Option ℕ) → number_of p ≡ n → P b n (value_by b n)
+    go true e None q = hyphen
+    go true e (Some n) q = absurd (of-legal n (sym (ap number_of (only-is 45 p e)) ∙ q))
+    go false e (Some n) q = number n (number_small p n q)
+    go false e None q = neither
+
+pub value-small : (p : List ℕ) (n : ℕ) → value_of p ≡ Number n → n ≤ 9999999999
+value-small p n =
+    value-cases (λ b o v. v ≡ Number n → n ≤ 9999999999) p
+    (λ e. absurd cc)
+    (λ k h e. let same : k ≡ n = cc in omega arith)
+    (λ e. absurd cc)
 
 -- ---- a line by its letter, and the pieces behind it
 

@@ -7,7 +7,7 @@
 pub mod shown;
 
 ghost use Rattle.std.specs.Prelude.{◌≡◌};
-ghost use Rattle.model.specs.Answers.{answered, status, step_reply};
+ghost use Rattle.model.specs.Answers.{step_reply};
 ghost use Rattle.model.specs.Calls.{step as Model-step};
 ghost use Rattle.model.specs.Solve.{is_waiting};
 ghost use Rattle.layout.specs.Read.{read_cache};
@@ -62,7 +62,7 @@ pub fn solve(words: &mut [u32], search: Search, steps: u32) -> StepsTaken
             let best = next.best_solution;
             let holder = next.trees[best_entry(best)];
             return StepsTaken {
-                answer: Ok(last_answer(words, best, holder)),
+                answer: last_answer(words, best, holder),
                 waits,
                 tickets,
                 search: next,
@@ -82,15 +82,19 @@ pub fn solve(words: &mut [u32], search: Search, steps: u32) -> StepsTaken
 
 // What is told of a search that some steps finished, by the entry that found the best. Where that entry holds nothing a step is refused,
 // which is told as waiting.
-fn last_answer(words: &[u32], best: Option<BestSolution>, holder: TreeMemory) -> SearchStatus
+fn last_answer(
+    words: &[u32],
+    best: Option<BestSolution>,
+    holder: TreeMemory,
+) -> Result<SearchStatus, Refusal>
     requires { Shows words.now (shown_of best holder) }
-    ensures { answered (status result) ≡ last_answer (read_cache words.now).trees best holder }
+    ensures { step_reply result ≡ last_answer (read_cache words.now).trees best holder }
 {
     match best {
-        None => SearchStatus::Impossible,
+        None => Ok(SearchStatus::Impossible),
         Some(_) => match held_in(words, shown_at(holder)) {
-            None => SearchStatus::Incomplete,
-            Some(node) => status_of(Some(node)),
+            None => Ok(SearchStatus::Incomplete),
+            Some(node) => Ok(status_of(Some(node))),
         },
     }
 }
@@ -180,9 +184,9 @@ pub fn not_stepped(search: Search, refusal: Refusal) -> Stepped
 pub fn retrace(cache: SoundCache, search: Search, path: &mut [u32]) -> Result<usize, Refusal>
     ensures { Retraces cache.entry.words.now search path.old result path.new }
 {
-    let standing = judge(cache, search)?;
-    match standing {
-        Standing::Unfinished => Err(Refusal::NotSolved),
-        Standing::Finished(held) => retrace_shown(held, path),
+    match judge(cache, search) {
+        Err(_) => Err(Refusal::InvalidSearch),
+        Ok(Standing::Unfinished) => Err(Refusal::NotSolved),
+        Ok(Standing::Finished(held)) => retrace_shown(held, path),
     }
 }

@@ -13,4 +13,4 @@ run_search-run-requires c = search (rules, sound-words-at)
 pub returns : goal.returns
 returns c =
     has-run _ _ _ _ (sym c.is_sound.ensures ∙ c.if-not-is_sound.false) c.run_search-run.ensures c.retrace_shown-retraced.result
-    (held-retraced _ _ _ c.held_in.ensures _ _ _ c.retrace_shown-retraced.ensures) c.is_ok.ensures.value
+    (held-retraced _ _ _ c.held_in.ensures _ _ _ c.retrace_shown-retraced.ensures) c.has_moves.ensures

@@ -2,6 +2,7 @@ use Rattle.std.proofs.Common.{refl, sym, ◌∙◌, ap, subst, List, ℕ, length
 use Rattle.std.proofs.Math.ListN.{length-replicate}
 use Rattle.std.proofs.lemmas.Result.{err_from_is_err_and}
 use Rattle.model.specs.Answers.{Reply}
+use Rattle.order_run.specs.Run.{listed}
 use Rattle.draw.specs.Picture.{found_by, FoundIs}
 use Rattle.draw.proofs.Pictures.{form-within, find-refused, find-few, find-opened, found-is, ordered, ordered-none}
 use Rattle.draw.proofs.picture.find_path.Goals as goal
@@ -18,7 +19,7 @@ returns-in_err-open c =
     let read = sym c.in_ok-read.ensures.ok_part ∙ c.read_order.ensures in
     let p = err_from_is_err_and c.from_residual-in_err-open.result c.from_residual-in_err-open.ensures.1 in
     let within = form-within o.form d c.direction.ensures in
-    rw (p.1, p.2) (find-refused c.args.chart.now d within c.open.new.words o.starts.items o.goals.items _ c.in_err-open.ensures ∙ ordered _ _ o read c.direction.ensures refl refl)
+    rw (p.1, p.2) (find-refused c.args.chart.now d within c.open.new.words (listed o.starts) (listed o.goals) _ c.in_err-open.ensures ∙ ordered _ _ o read c.direction.ensures refl refl)
 
 pub path_found-requires : goal.path_found-requires
 path_found-requires c =
@@ -38,7 +39,7 @@ returns c =
     let read = sym c.in_ok-read.ensures.ok_part ∙ c.read_order.ensures in
     let within = form-within o.form d c.direction.ensures in
     let few = find-few a.chart.now d within c.open.new.words ss gs a.path.now c.requires r _ _ c.plan.ensures in
-    let path = ordered _ _ o read c.direction.ensures c.deref.ensures.0 c.deref-2.ensures.0 in
+    let path = ordered _ _ o read c.direction.ensures c.deref.ensures c.deref-2.ensures in
     let is = find-opened a.chart.now d within c.open.new.words ss gs a.path.now c.requires r _ _ c.plan.ensures c.in_ok-open.ensures ∙ path in
     let long = c.plan.auto.path ∙ ap length c.requires ∙ length-replicate {A = ℕ} 2047 0 in
     rw c.path_found.ensures (subst (λ (x : Reply (List ℕ)). FoundIs (found_by r.answer r.has_path) q x) is (found-is r.answer r.has_path q long few))

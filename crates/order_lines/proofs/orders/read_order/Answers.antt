@@ -7,6 +7,16 @@ returns-in_default c =
     let fields = order_fields _ c.args.line.now _ _ _ _ _ _ _ _ _ _ c.next.ensures.steps c.next-2.ensures.steps c.next-3.ensures.steps c.next-4.ensures.steps c.split-fields.ensures.rest c.split-fields.ensures.done c.split-fields.ensures.closure (λ x y q k. search (rules, tests)) in
     search rules
 
+pub returns-in_default-2 : goal.returns-in_default-2
+returns-in_default-2 c =
+    let fields = order_fields _ c.args.line.now _ _ _ _ _ _ _ _ _ _ c.next.ensures.steps c.next-2.ensures.steps c.next-3.ensures.steps c.next-4.ensures.steps c.split-fields.ensures.rest c.split-fields.ensures.done c.split-fields.ensures.closure (λ x y q k. search (rules, tests)) in
+    search rules
+
+pub returns-in_default-3 : goal.returns-in_default-3
+returns-in_default-3 c =
+    let fields = order_fields _ c.args.line.now _ _ _ _ _ _ _ _ _ _ c.next.ensures.steps c.next-2.ensures.steps c.next-3.ensures.steps c.next-4.ensures.steps c.split-fields.ensures.rest c.split-fields.ensures.done c.split-fields.ensures.closure (λ x y q k. search (rules, tests)) in
+    search rules
+
 pub returns-in_err-read_letter : goal.returns-in_err-read_letter
 returns-in_err-read_letter c =
     let fields = order_fields _ c.args.line.now _ _ _ _ _ _ _ _ _ _ c.next.ensures.steps c.next-2.ensures.steps c.next-3.ensures.steps c.next-4.ensures.steps c.split-fields.ensures.rest c.split-fields.ensures.done c.split-fields.ensures.closure (λ x y q k. search (rules, tests)) in
