@@ -10,7 +10,7 @@ use planner::{MAX_STEPS, solve};
 use std::env::Env;
 use text::bytes::read_number;
 
-// The words lent to the calls, and one past them.
+// The words that caches are opened in, and one past them, which the check alone is lent.
 const LENT: usize = 65536;
 
 const WORDS: usize = LENT + 1;
@@ -29,7 +29,7 @@ fn main(rt: HostRuntime) {
     };
 }
 
-// The words lent are those of an opened cache. The call is `c`, which checks the words, or one of those below.
+// All but the last word are those of an opened cache. The call is `c`, which checks the words, or one of those below.
 fn run(rt: &impl Env, words: &mut [u32; WORDS]) -> u64 {
     let goals = list(rt, 4);
     fill(&mut words[..LENT], &list(rt, 2), &goals);
@@ -49,7 +49,7 @@ fn checked(words: &mut [u32], count: usize) -> u64 {
     })
 }
 
-// Changes the last word, which is not lent and which no cache reaches: a check of the same words would be made once and not repeated.
+// Changes the last word, which no cache reaches: a check of the same words would be made once and not repeated.
 fn touch(words: &mut [u32]) {
     if let Some(last) = words.last_mut() {
         *last = last.wrapping_add(1);

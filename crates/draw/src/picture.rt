@@ -1,9 +1,10 @@
 // What is printed: a chart's drawing, or why there is none.
-ghost use Rattle.std.specs.Prelude.{◌≡◌, cond, length, replicate, option_copied};
+ghost use Rattle.std.specs.Prelude.{◌≡◌, cond, ◌≤◌, length, replicate, option_copied};
 ghost use Rattle.model.specs.Answers.{answered, status, step_reply};
 ghost use Rattle.text.specs.Read.{read_graph};
+ghost use Rattle.layout.specs.Read.{direction_of};
 ghost use Rattle.put_text.specs.Puts.{Puts};
-ghost use Rattle.draw.specs.Picture.{drawn_text, picture_text, form_number, order_path, words_in, found_by, Few, FoundIs};
+ghost use Rattle.draw.specs.Picture.{drawn_text, picture_text, form_number, order_path, path_in, words_in, found_by, Few, FoundIs};
 
 use drawing::{DrawError, draw};
 use model::{Planned, Refusal, Refused, SearchStatus, number};
@@ -50,17 +51,31 @@ fn put_drawn(chart: &[u8], path: &[u32], out: &mut [u8]) -> usize
     }
 }
 
-// How many words the path of an order has. The order is refused by its form before the chart is read. Its words are a frame of their
-// own: without an order no page of them is touched.
-#[inline(never)]
+// How many words the path of an order has. The order is refused by its form before the chart is read.
 fn find_path(chart: &[u8], order: &[u8], path: &mut [u32]) -> Result<usize, Refused>
     requires { path.old ≡ replicate 2047 0 }
     ensures { FoundIs result path.new (order_path chart.now order.now) }
 {
     let read = read_order(order).ok_or(Refusal::Malformed)?;
+    find_in(chart, direction(read.form), &read.starts, &read.goals, path)
+}
+
+// How many words the path has that a search of a direction finds. Its words are a frame of their own: without an order, or with one that
+// has no form, no page of them is touched.
+#[inline(never)]
+fn find_in(
+    chart: &[u8],
+    direction: u32,
+    starts: &[u32],
+    goals: &[u32],
+    path: &mut [u32],
+) -> Result<usize, Refused>
+    requires { (direction ≤ 1) × (path.old ≡ replicate 2047 0) }
+    ensures { FoundIs result path.new (path_in (direction_of direction) (read_graph chart.now) starts.now goals.now) }
+{
     let mut words = [0u32; WORDS];
-    cache::open(&mut words, chart, direction(read.form), SLOTS)?;
-    path_found(planner::plan(&mut words, &read.starts, &read.goals, path))
+    cache::open(&mut words, chart, direction, SLOTS)?;
+    path_found(planner::plan(&mut words, starts, goals, path))
 }
 
 // The number that `open` takes.
